@@ -1,0 +1,7 @@
+-- What the functions of this crate do, and the laws that their callers use.
+pub mod Laid
+pub mod States
+pub mod World
+pub mod Cells
+pub mod Across
+pub mod Coupling

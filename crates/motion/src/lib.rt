@@ -1,0 +1,231 @@
+// The state, one move, the counted and written move, and the arrangement of a zone.
+ghost use mathlib.Core.Path.{_≡_};
+ghost use Prim.Native.Nat.{_+_, _-_, _*_, _<_, _≤_, min};
+ghost use lib.ListN.{length, set, getD, take};
+ghost use Rattle.spec.specs.Arrangement.{mv, seek, apply};
+ghost use Rattle.spec.specs.State.{robotOn, arrangementOf, acrossMove, cellOf};
+ghost use Rattle.motion.specs.Laid.{laid};
+ghost use Rattle.motion.specs.States.{stateOf, stood, movedBy};
+ghost use Rattle.motion.specs.World.{worldOf, made, laidMove, oneMore};
+ghost use Rattle.motion.specs.Cells.{overlaid};
+use numbering::Robot;
+use numbering::Vertex;
+
+// The robot on each vertex and the vertex of each robot; 255 is no robot, and no vertex.
+pub struct State {
+    pub robots: [Robot; 128],
+    pub vertices: [Vertex; 64],
+}
+
+// A state, and how many moves were made to reach it.
+pub struct Run {
+    pub state: State,
+    pub count: usize,
+}
+
+fn least(a: usize, b: usize) -> usize
+    ensures { λ r. ⌜ r ≡ min a b ⌝ }
+{
+    if a < b {
+        return a;
+    }
+    b
+}
+
+// Robot i on the i-th of the first k starts.
+pub fn standing(starts: [u8; 64], k: usize) -> State
+    ensures { λ s. ⌜ stateOf s ≡ stood (take k starts) ⌝ }
+{
+    let n = least(k, 64);
+    let mut s = State {
+        robots: [Robot(255); 128],
+        vertices: [Vertex(255); 64],
+    };
+    let mut i: usize = 0;
+    while i < n {
+        let v = Vertex(starts[i]);
+        let at = v.0 as usize;
+        let r = Robot(i as u8);
+        s.vertices[i] = v;
+        i += 1;
+        if at < 128 {
+            s.robots[at] = r;
+        }
+    }
+    s
+}
+
+// Robot r goes from one vertex to another.
+pub fn moved(s: State, r: Robot, from: Vertex, to: Vertex) -> State
+    ensures { λ t. ⌜ stateOf t ≡ movedBy (stateOf s) (mv (r .0) (from .0) (to .0)) ⌝ }
+{
+    let f = from.0 as usize;
+    let d = to.0 as usize;
+    let i = r.0 as usize;
+    let mut t = s;
+    if f < 128 {
+        t.robots[f] = Robot(255);
+    }
+    if d < 128 {
+        t.robots[d] = r;
+    }
+    if i < 64 {
+        t.vertices[i] = to;
+    }
+    t
+}
+
+// The robot on a vertex.
+pub fn robot_on(s: State, v: Vertex) -> Robot
+    ensures { λ r. ⌜ r .0 ≡ robotOn (stateOf s) (v .0) ⌝ }
+{
+    let i = v.0 as usize;
+    if i < 128 {
+        return s.robots[i];
+    }
+    Robot(255)
+}
+
+// The vertex of a robot.
+pub fn vertex_of(s: State, r: Robot) -> Vertex
+    ensures { λ v. ⌜ v .0 ≡ getD (stateOf s .vertices) (r .0) 255 ⌝ }
+{
+    let i = r.0 as usize;
+    if i < 64 {
+        return s.vertices[i];
+    }
+    Vertex(255)
+}
+
+// Payload byte off of an answer, as far as the buffer goes.
+pub fn put_byte(out: &mut [u8], off: usize, b: u8)
+    ensures { λ r. ⌜ now (out .exit) ≡ laid (now (out .entry)) off b ⌝ }
+{
+    if off < out.len() {
+        let at = off / 504 * 512 + 6 + off % 504;
+        if at < out.len() {
+            out[at] = b;
+        }
+    }
+}
+
+// The bytes of the n-th move.
+fn put_move(out: &mut [u8], n: usize, r: Robot, from: Vertex, to: Vertex)
+    ensures { λ q. ⌜ now (out .exit) ≡ laidMove (now (out .entry)) n (mv (r .0) (from .0) (to .0)) ⌝ }
+{
+    if n < out.len() / 3 {
+        let at = n * 3 + 2;
+        put_byte(out, at, r.0);
+        put_byte(out, at + 1, from.0);
+        put_byte(out, at + 2, to.0);
+    }
+}
+
+fn one_more(n: usize) -> usize
+    ensures { λ k. ⌜ k ≡ oneMore n ⌝ }
+{
+    if n < 4611686018427387904 {
+        return n + 1;
+    }
+    n
+}
+
+// A move is made, counted and written.
+pub fn make(run: Run, r: Robot, from: Vertex, to: Vertex, out: &mut [u8]) -> Run
+    ensures { λ q. ⌜ worldOf q (now (out .exit)) ≡ made (worldOf run (now (out .entry))) (mv (r .0) (from .0) (to .0)) ⌝ }
+{
+    let s = run.state;
+    let n = run.count;
+    let t = moved(s, r, from, to);
+    put_move(out, n, r, from, to);
+    let k = one_more(n);
+    Run { state: t, count: k }
+}
+
+// The vertex at a place of a zone.
+pub fn vertex_at(zone: &[u8], i: usize) -> Vertex
+    ensures { λ v. ⌜ v .0 ≡ getD (now (zone .entry)) i 0 ⌝ }
+{
+    if i < zone.len() {
+        return Vertex(zone[i]);
+    }
+    Vertex(0)
+}
+
+// What stands on a place of an arrangement: 0 for nothing, r + 1 for robot r.
+pub fn cell_at(cells: &[u8], i: usize) -> u8
+    ensures { λ x. ⌜ x ≡ getD (now (cells .entry)) i 0 ⌝ }
+{
+    if i < cells.len() {
+        return cells[i];
+    }
+    0
+}
+
+// The earliest place at which x stands; the size where there is none.
+pub fn seek_cell(cells: &[u8], x: u8) -> usize
+    ensures { λ i. ⌜ i ≡ seek x (now (cells .entry)) ⌝ }
+{
+    let mut i: usize = 0;
+    while i < cells.len() {
+        if x == cells[i] {
+            return i;
+        }
+        i += 1;
+    }
+    i
+}
+
+// x stands on place i, where there is such a place.
+pub fn put_cell(cells: &mut [u8], i: usize, x: u8)
+    ensures { λ q. ⌜ now (cells .exit) ≡ set (now (cells .entry)) i x ⌝ }
+{
+    if i < cells.len() {
+        cells[i] = x;
+    }
+}
+
+// A robot as what stands on a place.
+fn cell_of(r: Robot) -> u8
+    ensures { λ x. ⌜ x ≡ cellOf (r .0) ⌝ }
+{
+    if r.0 == 255 {
+        return 0;
+    }
+    r.0 + 1
+}
+
+// The arrangement of a zone, as far as the cells go.
+pub fn cells_of(s: State, zone: &[u8], cells: &mut [u8])
+    ensures { λ q. ⌜ now (cells .exit) ≡ overlaid (arrangementOf (stateOf s) (now (zone .entry))) (now (cells .entry)) ⌝ }
+{
+    let n = least(zone.len(), cells.len());
+    let mut k: usize = 0;
+    while k < n {
+        let r = robot_on(s, Vertex(zone[k]));
+        cells[k] = cell_of(r);
+        k += 1;
+    }
+}
+
+fn robot_of(x: u8) -> Robot
+    ensures { λ r. ⌜ r .0 ≡ x - 1 ⌝ }
+{
+    if x == 0 {
+        return Robot(0);
+    }
+    Robot(x - 1)
+}
+
+// The robot of cell x goes from place i of a zone to place j, in the state and in the lent arrangement.
+pub fn go(run: Run, zone: &[u8], cells: &mut [u8], x: u8, i: usize, j: usize, out: &mut [u8]) -> Run
+    ensures { λ q. ⌜ worldOf q (now (out .exit)) ≡ made (worldOf run (now (out .entry))) (acrossMove (now (zone .entry)) (mv (x - 1) i j)) ⌝ }
+    ensures { λ q. ⌜ now (cells .exit) ≡ apply (now (cells .entry)) (mv (x - 1) i j) ⌝ }
+{
+    let r = robot_of(x);
+    let v = vertex_at(zone, i);
+    let w = vertex_at(zone, j);
+    put_cell(cells, i, 0);
+    put_cell(cells, j, r.0 + 1);
+    make(run, r, v, w, out)
+}
