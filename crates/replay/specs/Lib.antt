@@ -1,0 +1,3 @@
+-- What ties the code of move lists to the written meanings.
+pub mod Moves
+pub mod Rounds
