@@ -1,3 +1,4 @@
 -- What ties the code of move lists to the written meanings.
 pub mod Moves
 pub mod Rounds
+pub mod Check
