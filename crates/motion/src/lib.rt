@@ -4,12 +4,12 @@ ghost use Prim.Native.Nat.{_+_, _-_, _*_, _<_, _≤_, min};
 ghost use lib.ListN.{length, set, getD, take};
 ghost use Rattle.spec.specs.Arrangement.{mv, seek, apply};
 ghost use Rattle.spec.specs.State.{robotOn, arrangementOf, acrossMove, cellOf};
-ghost use Rattle.motion.specs.Laid.{laid};
 ghost use Rattle.motion.specs.States.{stateOf, stood, movedBy};
 ghost use Rattle.motion.specs.World.{worldOf, made, laidMove, oneMore};
 ghost use Rattle.motion.specs.Cells.{overlaid};
 use numbering::Robot;
 use numbering::Vertex;
+use wire::put_byte;
 
 // The robot on each vertex and the vertex of each robot; 255 is no robot, and no vertex.
 pub struct State {
@@ -95,18 +95,6 @@ pub fn vertex_of(s: State, r: Robot) -> Vertex
         return s.vertices[i];
     }
     Vertex(255)
-}
-
-// Payload byte off of an answer, as far as the buffer goes.
-pub fn put_byte(out: &mut [u8], off: usize, b: u8)
-    ensures { λ r. ⌜ now (out .exit) ≡ laid (now (out .entry)) off b ⌝ }
-{
-    if off < out.len() {
-        let at = off / 504 * 512 + 6 + off % 504;
-        if at < out.len() {
-            out[at] = b;
-        }
-    }
 }
 
 // The bytes of the n-th move.

@@ -44,9 +44,9 @@ fn fault_of(s: State, rows: &[[u64; 2]; 128], n: usize, k: usize, r: u8, u: u8, 
 }
 
 // The lowest robot that is off its goal; k where there is none.
-fn off_goal(s: State, goals: &[u8; 64], k: usize) -> usize
+fn off_goal(s: State, goals: [u8; 64], k: usize) -> usize
     requires { ⌜ k ≤ 64 ⌝ }
-    ensures { λ r. ⌜ (r ≤ k) × (offGoal r k ≡ onGoals 0 (stateOf s .vertices) (take k (now (goals .entry)))) ⌝ }
+    ensures { λ r. ⌜ (r ≤ k) × (offGoal r k ≡ onGoals 0 (stateOf s .vertices) (take k goals)) ⌝ }
 {
     let mut i: usize = 0;
     while i < k {
@@ -132,7 +132,7 @@ pub fn check_moves(
     k: usize,
 ) -> MoveList
     requires { ⌜ (len ≤ length (now file) / 512 * 504) × (k ≤ 64) ⌝ }
-    ensures { λ r. ⌜ ((m : Map) (pl : Placing) → m .size ≡ n → Shows (now (rows .entry)) (m .edges) → pl .starts ≡ take k (now (starts .entry)) → pl .goals ≡ take k (now (goals .entry)) → moveListOf (take len (payload (now (file .entry)))) r ≡ checkedMoves m pl (take len (payload (now (file .entry))))) ⌝ }
+    ensures { λ r. ⌜ ((m : Map) (pl : Placing) → m .size ≡ n → Shows (now (rows .entry)) (m .edges) → pl .starts ≡ take k starts → pl .goals ≡ take k goals → moveListOf (take len (payload (now (file .entry)))) r ≡ checkedMoves m pl (take len (payload (now (file .entry))))) ⌝ }
 {
     if len < 2 {
         return MoveList::Short(0);
