@@ -12,6 +12,7 @@ ghost use Rattle.replay.specs.Moves.{moveTests};
 ghost use Rattle.replay.specs.Check.{faultAt, offGoal, moveListOf, ReplayOf};
 use crate::Fault;
 use crate::MoveList;
+use crate::Replay;
 use motion::State;
 use numbering::Robot;
 use numbering::Vertex;
@@ -59,14 +60,8 @@ fn off_goal(s: State, goals: [u8; 64], k: usize) -> usize
     i
 }
 
-// How far a replay came, and the state that it reached.
-pub struct Replay {
-    pub list: MoveList,
-    pub state: State,
-}
-
 // Replays `count` moves from a state, as long as they are legal.
-fn replay(
+fn replay_moves(
     file: &[u8],
     len: usize,
     count: usize,
@@ -127,8 +122,8 @@ pub fn check_moves(
     len: usize,
     rows: &[[u64; 2]; 128],
     n: usize,
-    starts: &[u8; 64],
-    goals: &[u8; 64],
+    starts: [u8; 64],
+    goals: [u8; 64],
     k: usize,
 ) -> MoveList
     requires { ⌜ (len ≤ length (now file) / 512 * 504) × (k ≤ 64) ⌝ }
@@ -139,7 +134,7 @@ pub fn check_moves(
     }
     let count = wire::payload_word(file, 0);
     let s = motion::standing(starts, k);
-    let q = replay(file, len, count, rows, n, k, s);
+    let q = replay_moves(file, len, count, rows, n, k, s);
     let list = q.list;
     let t = q.state;
     match list {

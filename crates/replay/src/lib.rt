@@ -22,3 +22,9 @@ pub enum MoveList {
     Standing(usize),
     Goal(usize),
 }
+
+// How far a replay came, and the state that it reached.
+pub struct Replay {
+    pub list: MoveList,
+    pub state: motion::State,
+}
