@@ -1,0 +1,73 @@
+use native.Mathlib.Omega.{arith}
+use Prim.Native.Nat.{ℕ, _+_, _*_, _/_}
+use mathlib.Core.Path.{_≡_, ap, sym, _∙_}
+use Rattle.wire.specs.Delivered.{answered, delivered-over, delivered-short, delivered-whole}
+use borrow.Author.Needs.{needs}
+use Rattle.wire.proofs.answer.deliver.Statement.{statement}
+use Rattle.wire.proofs.answer.deliver.Tie as tie
+
+mul-if1 : tie.Need-mul-if1
+mul-if1 c = search needs
+
+zero-requires : tie.Need-zero-requires
+zero-requires c κs = search needs
+
+same-length : tie.Need-same-length
+same-length c = search needs
+
+returns : tie.Need-returns
+returns c =
+    let a = c .before .before .before .before .before .before .args in
+    ap (answered (record { number = 61; value = 0 })) (c .before .before .zero .ensures)
+    ∙ sym (delivered-over (a .kind) (a .limit) (a .len) (a .out .now) (c .before .before .before .before .if1 .taken))
+
+add-size : tie.Need-add-size
+add-size c = search needs
+
+mul-size : tie.Need-mul-size
+mul-size c = search needs
+
+zero-requires-2 : tie.Need-zero-requires-2
+zero-requires-2 c κs = search needs
+
+same-length-2 : tie.Need-same-length-2
+same-length-2 c = search needs
+
+returns-2 : tie.Need-returns-2
+returns-2 c =
+    let a = c .before .before .before .before .before .before .before .args in
+    ap (answered (record { number = 60; value = 0 })) (c .before .before .zero2 .ensures)
+    ∙ sym (delivered-short (a .kind) (a .limit) (a .len) (a .out .now) (omega arith) (omega arith))
+
+seal-requires : tie.Need-seal-requires
+seal-requires c κs = search needs
+
+cast-t18 : tie.Need-cast-t18
+cast-t18 c = search needs
+
+same-length-3 : tie.Need-same-length-3
+same-length-3 c = search needs
+
+returns-3 : tie.Need-returns-3
+returns-3 c =
+    let a = c .before .before .before .before .before .before .before .args in
+    ap (answered (record { number = 0; value = (a .len + 503) / 504 * 512 })) (c .before .before .seal .ensures)
+    ∙ sym (delivered-whole (a .kind) (a .limit) (a .len) (a .out .now) (omega arith) (omega arith))
+
+pub deliver-spec : {M : Type 1} → statement M
+deliver-spec =
+    tie.close
+    (tie.spec
+    mul-if1
+    zero-requires
+    same-length
+    returns
+    add-size
+    mul-size
+    zero-requires-2
+    same-length-2
+    returns-2
+    seal-requires
+    cast-t18
+    same-length-3
+    returns-3)

@@ -1,0 +1,18 @@
+use mathlib.Core.Logic.{inl, inr}
+use borrow.Author.Needs.{needs}
+use native.Mathlib.Omega.{arith}
+use Prim.Native.Nat.{ℕ, _+_, _-_, _*_, _/_, _%_, _≤_, _<_}
+use mathlib.Core.Path.{_≡_, refl, ap, sym, _∙_}
+use mathlib.Core.Logic.{⊎-elim}
+use lib.ListN.{length, getD, take, drop, set, length-set}
+use Rattle.wire.proofs.answer.least.Statement.{statement}
+use Rattle.wire.proofs.answer.least.Tie as tie
+
+returns : tie.Need-returns
+returns c = inl (refl, c .if1 .taken)
+
+returns-2 : tie.Need-returns-2
+returns-2 c = inr (refl, omega arith)
+
+pub least-spec : {M : Type 1} → statement M
+least-spec = tie.close (tie.spec returns returns-2)

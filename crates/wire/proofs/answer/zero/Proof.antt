@@ -1,0 +1,22 @@
+use borrow.Author.Needs.{needs}
+use native.Mathlib.Omega.{arith}
+use Prim.Native.Nat.{ℕ, _-_}
+use mathlib.Core.Path.{_≡_, _∙_}
+use mathlib.Core.List.{append-nil}
+use lib.ListN.{length, replicate}
+use lib.Seq.{drop-length}
+use Rattle.wire.specs.Made.{cleared-all}
+use Rattle.wire.proofs.answer.zero.Statement.{statement}
+use Rattle.wire.proofs.answer.zero.Tie as tie
+
+clear-requires : tie.Need-clear-requires
+clear-requires c κs = search needs
+
+same-length : tie.Need-same-length
+same-length c = search needs
+
+returns : tie.Need-returns
+returns c = c .before .before .clear .ensures ∙ cleared-all (c .before .before .before .before .before .args .out .now)
+
+pub zero-spec : {M : Type 1} → statement M
+zero-spec = tie.close (tie.spec clear-requires same-length returns)

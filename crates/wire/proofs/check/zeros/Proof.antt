@@ -1,0 +1,62 @@
+use Rattle.spec.specs.Outcome.{all}
+use lib.Dec.{eqb}
+use Rattle.wire.specs.Block.{zeros-more, zeros-not, zeros-none}
+use borrow.Author.Needs.{needs}
+use native.Mathlib.Omega.{arith}
+use Prim.Native.Nat.{ℕ, _+_, _-_, _*_, _/_, _%_, _≤_, _<_}
+use mathlib.Core.Path.{_≡_, refl, ap, sym, _∙_}
+use mathlib.Core.Logic.{⊎-elim}
+use lib.ListN.{length, getD, take, drop, set, length-set}
+use Rattle.wire.proofs.check.zeros.Statement.{statement}
+use Rattle.wire.proofs.check.zeros.Tie as tie
+
+abbrev Inv-loop : tie.InvT-loop
+Inv-loop file from end o₀ o =
+    (from ≤ o) × (o ≤ end) × (all (λ x. eqb x 0) (take (end - o) (drop o file)) ≡ all (λ x. eqb x 0) (take (end - from) (drop from file)))
+
+abbrev μ-loop : tie.MeasureT-loop
+μ-loop file from end o₀ o = end - o
+
+loop-holds : tie.Need-loop-holds Inv-loop μ-loop
+loop-holds c = (search needs, search needs, refl)
+
+shared-slice-read-if1 : tie.Need-shared-slice-read-if1 Inv-loop μ-loop
+shared-slice-read-if1 c = search needs
+
+returns : tie.Need-returns Inv-loop μ-loop
+returns c =
+    let a = c .before .before .before .before .args in
+    let o = c .before .before .before .loop in
+    sym (zeros-not (a .file .now) (o .o) (a .end) (omega arith) (omega arith) (c .if1 .taken)) ∙ o .inv .2
+
+add-o : tie.Need-add-o Inv-loop μ-loop
+add-o c = search needs
+
+loop-less : tie.Need-loop-less Inv-loop μ-loop
+loop-less c = search needs
+
+loop-again : tie.Need-loop-again Inv-loop μ-loop
+loop-again c =
+    let a = c .before .before .before .before .args in
+    let o = c .before .before .before .loop in
+    (search needs, search needs, sym (zeros-more (a .file .now) (o .o) (a .end) (omega arith) (omega arith) (c .if1 .left)) ∙ o .inv .2)
+
+returns-2 : tie.Need-returns-2 Inv-loop μ-loop
+returns-2 c =
+    let a = c .before .before .args in
+    let o = c .before .loop in
+    sym (zeros-none (a .file .now) (o .o) (a .end) (omega arith)) ∙ o .inv .2
+
+pub zeros-spec : {M : Type 1} → statement M
+zeros-spec =
+    tie.close
+    (tie.spec
+    Inv-loop
+    μ-loop
+    loop-holds
+    shared-slice-read-if1
+    returns
+    add-o
+    loop-less
+    loop-again
+    returns-2)

@@ -1,0 +1,121 @@
+-- A payload where it stands in a file: 504 bytes of each block, after the six of its head.
+use Prim.Native.Nat.{ℕ, zero, suc, _+_, _-_, _*_, _/_, _%_, _≤_, _<_}
+use mathlib.Core.Path.{_≡_, refl, ap, sym, _∙_}
+use mathlib.Core.Logic.{_⊎_, inl, inr, ⊎-elim}
+use mathlib.Core.Bool.{Bool, true, false}
+use mathlib.Core.List.{List, [], _∷_, _++_}
+use lib.ListN.{length, getD, take, drop, length-append, length-take, length-drop, List·getD-append, List·getD-eq-default}
+use lib.Seq.{getD-drop, getD-take, getD-append-add, length-take-le, ext-getD}
+use lib.Dec.{ltb, lit<}
+use borrow.Author.Tests.{ltb-true, ltb-false}
+use native.Mathlib.Numerals.{add-one}
+use native.Mathlib.Omega.{arith}
+use Rattle.spec.specs.Wire.{word}
+use Rattle.spec.specs.Terms.{Bytes}
+
+-- the payload parts of the first k blocks
+unfoldable pub parts : List ℕ → ℕ → List ℕ
+parts f zero = []
+parts f (suc k) = parts f k ++ take 504 (drop (k * 512 + 6) f)
+
+-- the payload parts of all blocks, padding too
+unfoldable pub payload : List ℕ → List ℕ
+payload f = parts f (length f / 512)
+
+-- where byte `off` of the payload stands in the file
+abbrev pub placeOf : ℕ → ℕ
+placeOf off = off / 504 * 512 + 6 + off % 504
+
+-- the two-byte number at `off` of the payload
+abbrev pub wordAt : List ℕ → ℕ → ℕ
+wordAt f off = getD f (placeOf off) 0 * 256 + getD f (placeOf (off + 1)) 0
+
+-- past the file's end it is 0
+pub word-out : (f : List ℕ) (off : ℕ) → length f ≤ off → wordAt f off ≡ 0
+word-out f off h =
+    rw (List·getD-eq-default f 0 {n = placeOf off} (omega arith), List·getD-eq-default f 0 {n = placeOf (off + 1)} (omega arith))
+
+-- one number is below another or not
+pub lt-or-ge : (a b : ℕ) → (a < b) ⊎ (b ≤ a)
+lt-or-ge a b = go (ltb a b) refl
+  where
+    go : (t : Bool) → ltb a b ≡ t → (a < b) ⊎ (b ≤ a)
+    go true e = inl (ltb-true a b e)
+    go false e = inr (ltb-false a b e)
+
+-- k parts are 504 bytes each
+pub parts-length : (f : List ℕ) (k : ℕ) → k * 512 ≤ length f → length (parts f k) ≡ k * 504
+unfolding parts
+parts-length f zero h = refl
+parts-length f (suc k) h =
+    let e : length (take 504 (drop (k * 512 + 6) f)) ≡ 504 = length-take-le 504 (drop (k * 512 + 6) f) (simp length-drop (omega arith)) in
+    length-append (parts f k) (take 504 (drop (k * 512 + 6) f)) ∙ omega (arith, e, parts-length f k (omega arith))
+
+-- the parts with one more
+pub parts-more : (f : List ℕ) (k : ℕ) → parts f (k + 1) ≡ parts f k ++ take 504 (drop (k * 512 + 6) f)
+unfolding parts
+parts-more f k = rw (add-one k)
+
+-- a byte of the parts, in the file
+pub parts-at : (f : List ℕ) (k off : ℕ) → k * 512 ≤ length f → off < k * 504 → getD (parts f k) off 0 ≡ getD f (placeOf off) 0
+unfolding parts
+parts-at f zero off h p = absurd (omega arith)
+parts-at f (suc k) off h p =
+    let l = parts-length f k (omega arith) in
+    ⊎-elim
+    (λ (q : off < k * 504). List·getD-append (parts f k) (take 504 (drop (k * 512 + 6) f)) 0 off (omega arith) ∙ parts-at f k off (omega arith) q)
+    (λ (q : k * 504 ≤ off).
+    let e : off ≡ length (parts f k) + (off - k * 504) = omega arith in
+    let e2 : k * 512 + 6 + (off - k * 504) ≡ placeOf off = omega arith in
+    ap (λ (i : ℕ). getD (parts f k ++ take 504 (drop (k * 512 + 6) f)) i 0) e
+    ∙ getD-append-add (parts f k) (take 504 (drop (k * 512 + 6) f)) (off - k * 504) 0
+    ∙ getD-take 504 (drop (k * 512 + 6) f) (off - k * 504) 0 (omega arith)
+    ∙ getD-drop (k * 512 + 6) f (off - k * 504) 0 ∙ ap (λ (i : ℕ). getD f i 0) e2)
+    (lt-or-ge off (k * 504))
+
+-- all parts of a file
+pub payload-length : (f : List ℕ) → length (payload f) ≡ length f / 512 * 504
+unfolding payload
+payload-length f = parts-length f (length f / 512) (omega arith)
+
+-- a byte of the payload, in the file
+pub payload-at : (f : List ℕ) (off : ℕ) → off < length f / 512 * 504 → getD (payload f) off 0 ≡ getD f (placeOf off) 0
+unfolding payload
+payload-at f off p = parts-at f (length f / 512) off (omega arith) p
+
+-- the part of the payload in block k, in the file
+pub chunk : (f : List ℕ) (k : ℕ) → (k + 1) * 512 ≤ length f → take 504 (drop (k * 504) (payload f)) ≡ take 504 (drop (k * 512 + 6) f)
+chunk f k h =
+    let l = payload-length f in
+    let a : length (take 504 (drop (k * 504) (payload f))) ≡ 504 = length-take-le 504 (drop (k * 504) (payload f)) (simp length-drop (omega arith)) in
+    let b : length (take 504 (drop (k * 512 + 6) f)) ≡ 504 = length-take-le 504 (drop (k * 512 + 6) f) (simp length-drop (omega arith)) in
+    ext-getD 0 (take 504 (drop (k * 504) (payload f))) (take 504 (drop (k * 512 + 6) f)) (a ∙ sym b)
+    (λ i q.
+    let q2 : i < 504 = omega arith in
+    let e : placeOf (k * 504 + i) ≡ k * 512 + 6 + i = omega arith in
+    getD-take 504 (drop (k * 504) (payload f)) i 0 q2 ∙ getD-drop (k * 504) (payload f) i 0
+    ∙ payload-at f (k * 504 + i) (omega arith) ∙ ap (λ (x : ℕ). getD f x 0) e
+    ∙ sym (getD-take 504 (drop (k * 512 + 6) f) i 0 q2 ∙ getD-drop (k * 512 + 6) f i 0))
+
+-- ---- the first m bytes of the payload: what a checked file holds
+
+module _ (f : List ℕ) (m : ℕ) (most : m ≤ length f / 512 * 504) where
+  -- they are m
+  pub held-length : length (take m (payload f)) ≡ m
+  held-length = length-take-le m (payload f) (omega (arith, payload-length f))
+
+  -- each stands at its place in the file
+  pub held-byte : (off : ℕ) → off < m → getD (take m (payload f)) off 0 ≡ getD f (placeOf off) 0
+  held-byte off h = getD-take m (payload f) off 0 h ∙ payload-at f off (omega arith)
+
+  -- so does each two-byte number
+  pub held-word : (off : ℕ) → off + 1 < m → word (take m (payload f)) off ≡ wordAt f off
+  unfolding word
+  held-word off h = rw (held-byte off (omega arith), held-byte (off + 1) h)
+
+  -- they are bytes if the file's are
+  pub held-bytes : Bytes f → Bytes (take m (payload f))
+  held-bytes h i =
+      ⊎-elim (λ (q : i < m). rw (held-byte i q) (h (placeOf i)))
+      (λ (q : m ≤ i). rw (List·getD-eq-default (take m (payload f)) 0 {n = i} (omega (arith, held-length))) (lit< tt))
+      (lt-or-ge i m)

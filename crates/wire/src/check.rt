@@ -1,0 +1,112 @@
+// What a file is: each block's checksum, its head, its fill and padding, blocks in order.
+ghost use mathlib.Core.Path.{_≡_};
+ghost use mathlib.Core.Bool.{Bool, true, false};
+ghost use Prim.Native.Nat.{ℕ, _+_, _-_, _≤_};
+ghost use lib.ListN.{length, take, drop};
+ghost use lib.Dec.{eqb};
+ghost use Rattle.spec.specs.Outcome.{all};
+ghost use Rattle.spec.specs.Wire.{headOk, filled, fillOk, payloadOf};
+ghost use Rattle.wire.specs.Block.{blockAt, sumOk};
+ghost use Rattle.wire.specs.Checked.{checkedOf, Held};
+use crate::Checked;
+use crate::checksum::checksum_at;
+use crate::checksum::word_at;
+
+// Is the stored checksum that of the block's other bytes?
+fn sum_ok(file: &[u8], at: usize) -> bool
+    requires { ⌜ at + 512 ≤ length (now file) ⌝ }
+    ensures { λ r. ⌜ r ≡ sumOk (blockAt (now (file .entry)) at) ⌝ }
+{
+    word_at(file, at + 510) == checksum_at(file, at)
+}
+
+// Are bytes 0-3 the kind, zero, and the block's number i?
+fn head_ok(file: &[u8], at: usize, i: usize, kind: u8) -> bool
+    requires { ⌜ at + 512 ≤ length (now file) ⌝ }
+    ensures { λ r. ⌜ r ≡ headOk kind i (blockAt (now (file .entry)) at) ⌝ }
+{
+    let k = file[at];
+    if k != kind {
+        return false;
+    }
+    let z = file[at + 1];
+    if z != 0 {
+        return false;
+    }
+    word_at(file, at + 2) == i
+}
+
+// May a block hold n bytes of payload?
+fn fill_allowed(n: usize, last: bool) -> bool
+    ensures { λ r. ⌜ r ≡ filled last n ⌝ }
+{
+    if last {
+        if n < 1 {
+            return false;
+        }
+        n <= 504
+    } else {
+        n == 504
+    }
+}
+
+// Are the bytes from `from` to before `end` all 0?
+fn zeros(file: &[u8], from: usize, end: usize) -> bool
+    requires { ⌜ (from ≤ «end») × («end» ≤ length (now file)) ⌝ }
+    ensures { λ r. ⌜ r ≡ all (λ x. eqb x 0) (take («end» - from) (drop from (now (file .entry)))) ⌝ }
+{
+    let mut o = from;
+    while o < end {
+        if file[o] != 0 {
+            return false;
+        }
+        o += 1;
+    }
+    true
+}
+
+// Is the fill allowed, and the padding after it zero?
+fn fill_ok(file: &[u8], at: usize, last: bool) -> bool
+    requires { ⌜ at + 512 ≤ length (now file) ⌝ }
+    ensures { λ r. ⌜ r ≡ fillOk last (blockAt (now (file .entry)) at) ⌝ }
+{
+    let n = word_at(file, at + 4);
+    if fill_allowed(n, last) {
+        return zeros(file, at + 6 + n, at + 510);
+    }
+    false
+}
+
+// What a file of this kind and at most `limit` blocks is.
+pub fn check_file(file: &[u8], kind: u8, limit: usize) -> Checked
+    ensures { λ r. ⌜ ((base : ℕ) → checkedOf base (now (file .entry)) r ≡ payloadOf base kind limit (now (file .entry))) ⌝ }
+    ensures { λ r. ⌜ Held limit (now (file .entry)) r ⌝ }
+{
+    let n = file.len() / 512;
+    if file.len() % 512 != 0 {
+        return Checked::Length;
+    }
+    if n < 1 {
+        return Checked::Length;
+    }
+    if n > limit {
+        return Checked::Length;
+    }
+    let mut i: usize = 0;
+    let mut len: usize = 0;
+    while i < n {
+        let at = i * 512;
+        if !sum_ok(file, at) {
+            return Checked::Checksum(i);
+        }
+        if !head_ok(file, at, i, kind) {
+            return Checked::Head(i);
+        }
+        if !fill_ok(file, at, i + 1 == n) {
+            return Checked::Fill(i);
+        }
+        len += word_at(file, at + 4);
+        i += 1;
+    }
+    Checked::Payload(len)
+}
