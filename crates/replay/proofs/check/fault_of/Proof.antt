@@ -1,6 +1,7 @@
 use borrow.Author.Needs.{needs}
+use borrow.Author.Tests.{not-true, not-false}
 use mathlib.Core.Path.{_≡_, sym, _∙_}
-use Rattle.replay.specs.Check.{no-robot, no-from, no-to, no-edge, not-at-from, to-taken, legal-move}
+use Rattle.replay.specs.Check.{edge-shown, no-robot, no-from, no-to, no-edge, not-at-from, to-taken, legal-move}
 use Rattle.replay.proofs.check.fault_of.Statement.{statement}
 use Rattle.replay.proofs.check.fault_of.Tie as tie
 use Rattle.replay.proofs.check.fault_of.Reads as reads
@@ -21,22 +22,22 @@ joined-requires : tie.Need-joined-requires
 joined-requires c κs = search needs
 
 returns-4 : tie.Need-returns-4
-returns-4 c = λ m e h i. no-edge m _ _ _ _ _ i (c .before .before .before .before .if1 .left) (rw e (c .before .before .before .if2 .left)) (rw e (c .before .before .if3 .left)) (sym (h .bits _ _) ∙ sym (c .before .joined .ensures) ∙ ?)
+returns-4 c = λ m e h i. no-edge m _ _ _ _ _ i (c .before .before .before .before .if1 .left) (rw e (c .before .before .before .if2 .left)) (rw e (c .before .before .if3 .left)) (edge-shown _ m h _ _ ∙ sym (c .before .joined .ensures) ∙ not-true _ (c .if4 .taken))
 
 robot-on-requires : tie.Need-robot-on-requires
 robot-on-requires c κs = search needs
 
 returns-5 : tie.Need-returns-5
-returns-5 c = λ m e h i. not-at-from m _ _ _ _ _ i (c .before .before .before .before .before .before .before .if1 .left) (rw e (c .before .before .before .before .before .before .if2 .left)) (rw e (c .before .before .before .before .before .if3 .left)) ? ?
+returns-5 c = λ m e h i. not-at-from m _ _ _ _ _ i (c .before .before .before .before .before .before .before .if1 .left) (rw e (c .before .before .before .before .before .before .if2 .left)) (rw e (c .before .before .before .before .before .if3 .left)) (edge-shown _ m h _ _ ∙ sym (c .before .before .before .before .joined .ensures) ∙ not-false _ (c .before .before .before .if4 .left)) (λ z. c .if5 .taken (c .before .before .robot-on .ensures ∙ z))
 
 robot-on-requires-2 : tie.Need-robot-on-requires-2
 robot-on-requires-2 c κs = search needs
 
 returns-6 : tie.Need-returns-6
-returns-6 c = λ m e h i. to-taken m _ _ _ _ _ i (c .before .before .before .before .before .before .before .before .before .before .if1 .left) (rw e (c .before .before .before .before .before .before .before .before .before .if2 .left)) (rw e (c .before .before .before .before .before .before .before .before .if3 .left)) ? ? ?
+returns-6 c = λ m e h i. to-taken m _ _ _ _ _ i (c .before .before .before .before .before .before .before .before .before .before .if1 .left) (rw e (c .before .before .before .before .before .before .before .before .before .if2 .left)) (rw e (c .before .before .before .before .before .before .before .before .if3 .left)) (edge-shown _ m h _ _ ∙ sym (c .before .before .before .before .before .before .before .joined .ensures) ∙ not-false _ (c .before .before .before .before .before .before .if4 .left)) (sym (c .before .before .before .before .before .robot-on .ensures) ∙ c .before .before .before .if5 .left) (λ z. c .if6 .taken (c .before .before .robot-on2 .ensures ∙ z))
 
 returns-7 : tie.Need-returns-7
-returns-7 c = λ m e h i. legal-move m _ _ _ _ _ i (c .before .before .before .before .before .before .before .before .before .before .if1 .left) (rw e (c .before .before .before .before .before .before .before .before .before .if2 .left)) (rw e (c .before .before .before .before .before .before .before .before .if3 .left)) ? ? ?
+returns-7 c = λ m e h i. legal-move m _ _ _ _ _ i (c .before .before .before .before .before .before .before .before .before .before .if1 .left) (rw e (c .before .before .before .before .before .before .before .before .before .if2 .left)) (rw e (c .before .before .before .before .before .before .before .before .if3 .left)) (edge-shown _ m h _ _ ∙ sym (c .before .before .before .before .before .before .before .joined .ensures) ∙ not-false _ (c .before .before .before .before .before .before .if4 .left)) (sym (c .before .before .before .before .before .robot-on .ensures) ∙ c .before .before .before .if5 .left) (sym (c .before .before .robot-on2 .ensures) ∙ c .if6 .left)
 
 pub fault-of-spec : {M : Type 1} → statement M
 fault-of-spec =
