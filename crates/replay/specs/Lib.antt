@@ -2,3 +2,4 @@
 pub mod Moves
 pub mod Rounds
 pub mod Check
+pub mod Drawn
