@@ -3,3 +3,4 @@ pub mod Moves
 pub mod Rounds
 pub mod Check
 pub mod Drawn
+pub mod Follow

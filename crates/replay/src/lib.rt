@@ -1,5 +1,6 @@
 // Move lists: checked against a map and a placing, the plan drawn from one, and its rounds.
 pub mod check;
+pub mod draw;
 pub mod rounds;
 
 pub use check::check_moves;
