@@ -11,8 +11,6 @@ use native.Mathlib.Numerals.{add-one}
 use native.Mathlib.Omega.{arith}
 use Rattle.spec.specs.Outcome.{all, _&&_}
 use Rattle.spec.specs.Wire.{checksum, word, headOk, filled, fillOk}
-use Rattle.spec.specs.Terms.{Bytes}
-use Rattle.wire.specs.Sum.{red, plain, sum-plain, red-is, red-zero}
 
 abbrev pub blockAt : List ℕ → ℕ → List ℕ
 blockAt f at = take 512 (drop at f)
@@ -20,29 +18,6 @@ blockAt f at = take 512 (drop at f)
 -- is the stored checksum that of the block's other bytes
 abbrev pub sumOk : List ℕ → Bool
 sumOk b = eqb (word b 510) (checksum (take 510 b))
-
--- bytes
-bytes-take : (n : ℕ) (l : List ℕ) → Bytes l → Bytes (take n l)
-bytes-take zero l h i = omega arith
-bytes-take (suc n) [] h i = h i
-bytes-take (suc n) (x ∷ l) h zero = h 0
-bytes-take (suc n) (x ∷ l) h (suc i) = bytes-take n l (λ j. h (suc j)) i
-
-bytes-drop : (n : ℕ) (l : List ℕ) → Bytes l → Bytes (drop n l)
-bytes-drop n l h i = rw getD-drop (h (n + i))
-
-pub checksum-zero : (f : List ℕ) (at : ℕ) → Bytes f → plain (take 510 (drop at f)) ≡ 0 → checksum (take 510 (drop at f)) ≡ 65535
-unfolding checksum
-checksum-zero f at h e =
-    ap (λ (s : ℕ). 65535 - s) (sum-plain (take 510 (drop at f)) (bytes-take 510 (drop at f) (bytes-drop at f h)) ∙ ap red e ∙ red-zero)
-
-pub checksum-more : (f : List ℕ) (at n : ℕ) → Bytes f → n ≡ plain (take 510 (drop at f)) → 0 < n
-    → checksum (take 510 (drop at f)) ≡ 65534 - (n - 1) % 65535
-unfolding checksum
-checksum-more f at n h e p =
-    ap (λ (s : ℕ). 65535 - s)
-    (sum-plain (take 510 (drop at f)) (bytes-take 510 (drop at f) (bytes-drop at f h)) ∙ ap red (sym e) ∙ red-is n p)
-    ∙ omega arith
 
 -- a range that is all zeros, from its front
 unfoldable pub zeroed : List ℕ → Bool

@@ -97,3 +97,92 @@ plain-less f o n k h =
 pub plain-none : (f : List ℕ) (n : ℕ) → n ≡ 0 → plain (take n f) ≡ 0
 unfolding plain
 plain-none f n h = ap (λ (m : ℕ). plain (take m f)) h
+
+-- a part of a list of bytes
+bytes-take : (n : ℕ) (l : List ℕ) → Bytes l → Bytes (take n l)
+bytes-take zero l h i = omega arith
+bytes-take (suc n) [] h i = h i
+bytes-take (suc n) (x ∷ l) h zero = h 0
+bytes-take (suc n) (x ∷ l) h (suc i) = bytes-take n l (λ j. h (suc j)) i
+
+bytes-drop : (n : ℕ) (l : List ℕ) → Bytes l → Bytes (drop n l)
+bytes-drop n l h i = rw getD-drop (h (n + i))
+
+-- ---- four bytes at once, the low byte first
+
+-- the 32-bit number at o, its low byte first
+abbrev pub little : List ℕ → ℕ → ℕ
+little f o = getD f o 0 + getD f (o + 1) 0 * 256 + getD f (o + 2) 0 * 65536 + getD f (o + 3) 0 * 16777216
+
+-- multiples of 65535 fold away
+red-same : (m n k : ℕ) → m ≡ n + 65535 * k → (n ≡ 0 → k ≡ 0) → red m ≡ red n
+red-same m zero k e z = ap red (omega (arith, z refl))
+red-same m (suc n) k e z = red-is m (omega arith) ∙ omega arith ∙ sym (red-suc n)
+
+-- two words may be summed as one 32-bit number whose bytes stand the other way round
+fold-bytes : (s a b c d x : ℕ)
+    → red ((s + (a + b * 256 + c * 65536 + d * 16777216)) * 256 + x) ≡ red (s * 256 + (a * 256 + b + (c * 256 + d + x)))
+fold-bytes s a b c d x = red-same _ _ (b + c * 256 + d * 65537) (omega arith) (λ z. omega arith)
+
+-- so may one word
+fold-pair : (s a b : ℕ) → red ((s + a + b * 256) * 256) ≡ red (s * 256 + (a * 256 + b))
+fold-pair s a b = red-same _ _ b (omega arith) (λ z. omega arith)
+
+-- four bytes of a file go from what is left to what is summed
+pub fold-four : (f : List ℕ) (s o n : ℕ) → 4 ≤ n → o + 4 ≤ length f
+    → red (s * 256 + plain (take n (drop o f))) ≡ red ((s + little f o) * 256 + plain (take (n - 4) (drop (o + 4) f)))
+unfolding word
+fold-four f s o n k h =
+    let a : o + 2 + 2 ≡ o + 4 = omega arith in
+    let b : n - 2 - 2 ≡ n - 4 = omega arith in
+    let c : o + 2 + 1 ≡ o + 3 = omega arith in
+    let p : plain (take n (drop o f)) ≡ word f o + (word f (o + 2) + plain (take (n - 4) (drop (o + 4) f))) =
+    plain-less f o n (omega arith) (omega arith)
+    ∙ ap (λ (x : ℕ). word f o + x) (plain-less f (o + 2) (n - 2) (omega arith) (omega arith) ∙ rw (a, b)) in
+    ap (λ (x : ℕ). red (s * 256 + x)) p ∙ rw c
+    (sym (fold-bytes s (getD f o 0) (getD f (o + 1) 0) (getD f (o + 2) 0) (getD f (o + 3) 0) (plain (take (n - 4) (drop (o + 4) f)))))
+
+-- the last two bytes
+pub fold-last : (f : List ℕ) (s o : ℕ) → o + 2 ≤ length f
+    → red (s * 256 + plain (take 2 (drop o f))) ≡ red ((s + getD f o 0 + getD f (o + 1) 0 * 256) * 256)
+unfolding word
+fold-last f s o h =
+    let p : plain (take 2 (drop o f)) ≡ word f o = plain-less f o 2 (omega arith) h ∙ omega (arith, plain-none (drop (o + 2) f) (2 - 2) (omega arith)) in
+    ap (λ (x : ℕ). red (s * 256 + x)) p ∙ sym (fold-pair s (getD f o 0) (getD f (o + 1) 0))
+
+-- eight bytes, in two sums
+pub fold-eight : (f : List ℕ) (s t o n : ℕ) → 8 ≤ n → o + 8 ≤ length f
+    → red ((s + t) * 256 + plain (take n (drop o f))) ≡ red ((s + little f o + (t + little f (o + 4))) * 256 + plain (take (n - 8) (drop (o + 8) f)))
+fold-eight f s t o n k h =
+    let a : o + 4 + 4 ≡ o + 8 = omega arith in
+    let b : n - 4 - 4 ≡ n - 8 = omega arith in
+    let c : s + t + little f o + little f (o + 4) ≡ s + little f o + (t + little f (o + 4)) = omega arith in
+    fold-four f (s + t) o n (omega arith) (omega arith)
+    ∙ fold-four f (s + t + little f o) (o + 4) (n - 4) (omega arith) (omega arith)
+    ∙ rw (a, b, c)
+
+-- the last six
+pub fold-six : (f : List ℕ) (s o : ℕ) → o + 6 ≤ length f
+    → red (s * 256 + plain (take 6 (drop o f))) ≡ red ((s + little f o + getD f (o + 4) 0 + getD f (o + 5) 0 * 256) * 256)
+fold-six f s o h =
+    let a : o + 4 + 1 ≡ o + 5 = omega arith in
+    fold-four f s o 6 (omega arith) (omega arith) ∙ fold-last f (s + little f o) (o + 4) (omega arith) ∙ rw a
+
+-- nothing summed yet
+pub fold-none : (f : List ℕ) (at : ℕ) → Bytes f → red ((0 + 0) * 256 + plain (take (510 - 0) (drop (at + 0) f))) ≡ sumWords (take 510 (drop at f))
+fold-none f at h =
+    let a : at + 0 ≡ at = omega arith in
+    let b : 0 + plain (take 510 (drop at f)) ≡ plain (take 510 (drop at f)) = omega arith in
+    rw (a, b) (sym (sum-plain (take 510 (drop at f)) (bytes-take 510 (drop at f) (bytes-drop at f h))))
+
+-- ---- the checksum from a sum that is not folded yet
+
+-- of a sum of 0
+pub checksum-zero : (bs : List ℕ) (n : ℕ) → red (n * 256) ≡ sumWords bs → n ≡ 0 → checksum bs ≡ 65535
+unfolding checksum
+checksum-zero bs n e z = ap (λ (s : ℕ). 65535 - s) (sym e ∙ ap red (omega arith) ∙ red-zero)
+
+-- of any other
+pub checksum-more : (bs : List ℕ) (n : ℕ) → red (n * 256) ≡ sumWords bs → 0 < n → checksum bs ≡ 65534 - (n * 256 - 1) % 65535
+unfolding checksum
+checksum-more bs n e p = ap (λ (s : ℕ). 65535 - s) (sym e ∙ red-is (n * 256) (omega arith)) ∙ omega arith
