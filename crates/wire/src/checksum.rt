@@ -3,7 +3,7 @@ ghost use mathlib.Core.Path.{_≡_};
 ghost use Prim.Native.Nat.{_+_, _*_, _<_, _≤_};
 ghost use lib.ListN.{length, take, drop};
 ghost use Rattle.spec.specs.Wire.{word, sumWords, checksum};
-ghost use Rattle.wire.specs.Sum.{red, little};
+ghost use Rattle.wire.specs.Sum.{folded, little};
 
 // A byte as a wide number.
 fn wide(b: u8) -> usize
@@ -38,7 +38,7 @@ fn little_at(file: &[u8], o: usize) -> usize
 // 256 times the result folds to the sum of the words: the order of the bytes doesn't matter to it (RFC 1071, 2 (B)).
 fn total(file: &[u8], at: usize) -> usize
     requires { ⌜ at + 510 ≤ length (now file) ⌝ }
-    ensures { λ r. ⌜ (red (r * 256) ≡ sumWords (take 510 (drop at (now (file .entry))))) × (r < 1099511627776) ⌝ }
+    ensures { λ r. ⌜ (folded (r * 256) ≡ sumWords (take 510 (drop at (now (file .entry))))) × (r < 1099511627776) ⌝ }
 {
     let mut even: usize = 0;
     let mut odd: usize = 0;

@@ -1,3 +1,4 @@
+-- `fill_allowed`: a full block, a last block, a fill of 0.
 use borrow.Author.Tests.{lt-leb, le-leb, not-true, not-false}
 use Rattle.spec.specs.Outcome.{_&&_}
 use Rattle.spec.specs.Wire.{filled}

@@ -1,6 +1,7 @@
+-- `checksum_at`: the sum is folded by one rest, but for a sum of 0.
 use borrow.Author.Needs.{needs}
 use native.Mathlib.Omega.{arith}
-use mathlib.Core.Path.{_≡_, sym, _∙_}
+use mathlib.Core.Path.{sym}
 use lib.ListN.{take, drop}
 use Rattle.wire.specs.Sum.{checksum-zero, checksum-more}
 use Rattle.wire.proofs.checksum.checksum_at.Statement.{statement}

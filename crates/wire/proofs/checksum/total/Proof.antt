@@ -1,17 +1,18 @@
+-- `total`: at each turn, what is summed so far with the words still left folds to the sum of all words.
 use borrow.Author.Needs.{needs}
 use native.Mathlib.Omega.{arith}
-use Prim.Native.Nat.{ℕ, _+_, _-_, _*_, _%_, _≤_, _<_}
-use mathlib.Core.Path.{_≡_, refl, sym, _∙_}
-use lib.ListN.{length, getD, take, drop}
+use Prim.Native.Nat.{_+_, _-_, _*_, _%_, _≤_}
+use mathlib.Core.Path.{_≡_, sym, _∙_}
+use lib.ListN.{take, drop}
 use Rattle.spec.specs.Wire.{sumWords}
-use Rattle.wire.specs.Sum.{red, plain, little, fold-none, fold-eight, fold-six}
+use Rattle.wire.specs.Sum.{folded, plain, fold-none, fold-eight, fold-six}
 use Rattle.wire.proofs.checksum.total.Statement.{statement}
 use Rattle.wire.proofs.checksum.total.Tie as tie
 
 abbrev Inv-loop : tie.InvT-loop
 Inv-loop file at even₀ odd₀ o₀ even odd o =
     (o ≤ 504) × (o % 8 ≡ 0) × (even * 8 ≤ 4294967295 * o) × (odd * 8 ≤ 4294967295 * o)
-    × (red ((even + odd) * 256 + plain (take (510 - o) (drop (at + o) file))) ≡ sumWords (take 510 (drop at file)))
+    × (folded ((even + odd) * 256 + plain (take (510 - o) (drop (at + o) file))) ≡ sumWords (take 510 (drop at file)))
 
 abbrev μ-loop : tie.MeasureT-loop
 μ-loop file at even₀ odd₀ o₀ even odd o = 504 - o

@@ -1,3 +1,4 @@
+-- `word_at`: two bytes make the word.
 use Rattle.spec.specs.Wire.{word}
 use borrow.Author.Needs.{needs}
 use Rattle.wire.proofs.checksum.word_at.Statement.{statement}
