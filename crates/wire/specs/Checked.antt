@@ -1,6 +1,6 @@
 -- What the check of a file says, and that it says what `payloadOf` does.
 use Prim.Native.Nat.{ℕ, suc, _+_, _-_, _*_, _/_, _%_, _≤_, _<_}
-use mathlib.Core.Path.{_≡_, refl, ap, sym, _∙_}
+use mathlib.Core.Path.{_≡_, refl, ap, sym, subst, _∙_}
 use mathlib.Core.Bool.{Bool, true, false}
 use mathlib.Core.List.{List, [], _++_}
 use lib.ListN.{length, take, drop}
@@ -37,6 +37,17 @@ Held limit f Length = Unit {0}
 Held limit f (Checksum i) = i < limit
 Held limit f (Head i) = i < limit
 Held limit f (Fill i) = i < limit
+
+-- ---- what callers cite where a check has come out as `s`
+
+-- the definition comes out so too
+pub read-as : (base kind limit : ℕ) (f : List ℕ) (r s : Checked) → checkedOf base f r ≡ payloadOf base kind limit f → r ≡ s
+    → payloadOf base kind limit f ≡ checkedOf base f s
+read-as base kind limit f r s e z = sym e ∙ ap (checkedOf base f) z
+
+-- and the case's facts hold
+pub held-as : (limit : ℕ) (f : List ℕ) (r s : Checked) → Held limit f r → r ≡ s → Held limit f s
+held-as limit f r s h z = subst (λ (x : Checked). Held limit f x) z h
 
 -- ---- one block
 
