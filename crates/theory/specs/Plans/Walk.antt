@@ -1,10 +1,10 @@
 -- Walks: steps that pass one after the other. Their moves are legal and draw them, and they are what is read from a plan's bytes.
 use mathlib.Core.Path.{_≡_, refl, sym, ap, ap₂, _∙_}
 use mathlib.Core.List.{List, [], _∷_, _++_, append-assoc}
-use Prim.Native.Nat.{ℕ, zero, suc, _+_, _≤_, _<_}
+use Prim.Native.Nat.{ℕ, zero, suc, _+_, _≤_}
 use native.Mathlib.Nat.{add-zero}
 use native.Mathlib.Omega.{arith}
-use lib.ListN.{length, getD, drop, length-append}
+use lib.ListN.{length, drop, length-append}
 use Rattle.spec.specs.Outcome.{ok}
 use Rattle.spec.specs.Layout.{Map}
 use Rattle.spec.specs.Arrangement.{Move}
@@ -15,7 +15,7 @@ use Rattle.theory.specs.Maps.Layout.{Accepted}
 use Rattle.theory.specs.Maps.Moves.{Legals, stay, moved-append, legals-append, drawn-append}
 use Rattle.theory.specs.Maps.Consistent.{Consistent, consistent-all}
 use Rattle.theory.specs.Plans.Taken.{Taken, TakenAt, taken-at, takes-at, ranOf, movesOf, stepWith}
-use Rattle.theory.specs.Plans.Step.{Made, made}
+use Rattle.theory.specs.Plans.Step.{made}
 
 -- the steps ss pass one after the other from s, and their moves are xs
 pub data Walk (m : Map) (k : ℕ) : State → List Step → List Move → Type 0 where

@@ -1,19 +1,18 @@
 -- Answers: what a service returns and leaves whose work is a chain of checks and then a file that has to fit.
-use mathlib.Core.Path.{_≡_, refl, sym, ap, _∙_}
-use mathlib.Core.Logic.{_≢_}
+use mathlib.Core.Path.{_≡_, refl, _∙_}
 use mathlib.Core.Bool.{Bool, true, false}
-use mathlib.Core.List.{List, [], _∷_, _++_}
-use Prim.Native.Nat.{ℕ, _+_, _-_, _*_, _≤_, _<_}
+use mathlib.Core.List.{List, _∷_, _++_}
+use Prim.Native.Nat.{ℕ, _-_, _*_, _≤_, _<_}
 use native.Mathlib.Omega.{arith}
 use native.Mathlib.Decide.{decLe}
-use lib.ListN.{length, drop, replicate, length-append, length-replicate}
+use lib.ListN.{length, replicate, length-append, length-replicate}
 use lib.Seq.{drop-at}
 use lib.Dec.{T, leb→le, le→leb}
-use Rattle.spec.specs.Outcome.{Outcome, ok, refuse, _>>=_, _>>_, check, member}
+use Rattle.spec.specs.Outcome.{Outcome, ok, refuse, _>>=_, _>>_, check}
 use Rattle.spec.specs.Wire.{fileOf}
 use Rattle.spec.specs.Services.{Answer, fits, answerOf}
 use Rattle.spec.specs.Terms.{Within, writes, Answers, Left, answerNumbers}
-use Rattle.theory.specs.Basics.Outcomes.{ok-injective, never, pass, passed, bound, bind}
+use Rattle.theory.specs.Basics.Outcomes.{ok-injective, pass, passed, bound, bind}
 use Rattle.theory.specs.Basics.Lists.{In, in-head, in-tail}
 use Rattle.theory.specs.Codec.{blockCount, file-length}
 use Rattle.theory.specs.Services.Refusals.{Numbered, numbered-bind, numbered-left, numbered-right, numbered-fits}

@@ -1,20 +1,19 @@
 -- Plans as files: what is cleared is the plan of a legal list to the goals, and every abstract plan that fits is cleared.
-use mathlib.Core.Path.{_≡_, refl, sym, ap, _∙_}
+use mathlib.Core.Path.{_≡_, sym, ap, _∙_}
 use mathlib.Core.List.{List, [], _∷_}
-use Prim.Native.Nat.{ℕ, _*_, _≤_, _<_}
+use Prim.Native.Nat.{ℕ, _*_, _≤_}
 use native.Mathlib.Omega.{arith}
 use lib.ListN.{length, length-append}
 use Rattle.spec.specs.Outcome.{ok}
-use Rattle.spec.specs.Wire.{fileOf, payloadOf}
+use Rattle.spec.specs.Wire.{fileOf}
 use Rattle.spec.specs.Arrangement.{Move}
-use Rattle.spec.specs.State.{Step, movedAll, drawnSteps, stepBytes, planPayload}
-use Rattle.spec.specs.Run.{resolvedMoves}
+use Rattle.spec.specs.State.{Step, stepBytes, planPayload}
 use Rattle.spec.specs.Services.{Instance, instanceOf, planMoves}
 use Rattle.spec.specs.Terms.{Bytes, Within, start, goal, planFile, Abstract}
 use Rattle.theory.specs.Basics.Outcomes.{bound, bind}
 use Rattle.theory.specs.Codec.{read-file, written-file, written-bytes}
-use Rattle.theory.specs.Maps.Instance.{Accepted-instance, instance-accepted}
-use Rattle.theory.specs.Plans.Resolve.{Concrete, Resolved, plan-length, resolved-sound, resolved-complete}
+use Rattle.theory.specs.Maps.Instance.{instance-accepted}
+use Rattle.theory.specs.Plans.Resolve.{Concrete, plan-length, resolved-sound, resolved-complete}
 use Rattle.theory.specs.Services.Answers.{payload-within}
 
 -- a plan that is cleared: a legal list to the goals that draws it

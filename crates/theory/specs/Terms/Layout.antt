@@ -1,19 +1,17 @@
 -- What is claimed of accepted maps and the states reached from the starts.
 use mathlib.Core.Path.{_≡_, refl, sym, ap, ap₂, _∙_}
-use mathlib.Core.Logic.{_≢_}
 use mathlib.Core.List.{List}
-use Prim.Native.Nat.{ℕ, suc, _≤_, _<_}
+use Prim.Native.Nat.{ℕ}
 use native.Mathlib.Omega.{arith}
-use lib.ListN.{length, getD}
-use lib.Dec.{T}
+use lib.ListN.{length}
 use Rattle.spec.specs.Outcome.{ok, indexOf}
 use Rattle.spec.specs.Layout.{Map, zoneOf, zoneAt}
 use Rattle.spec.specs.Arrangement.{Move}
-use Rattle.spec.specs.State.{State, movedAll}
+use Rattle.spec.specs.State.{movedAll}
 use Rattle.spec.specs.Services.{Instance, instanceOf}
-use Rattle.spec.specs.Terms.{Stands, Zoned, Partition, Agrees, Consistency, ActsInside, InsideZones, Crosses, Crossings, start, vertexAt}
+use Rattle.spec.specs.Terms.{Zoned, Partition, Consistency, InsideZones, Crossings, start}
 use Rattle.theory.specs.Maps.Layout.{Accepted}
-use Rattle.theory.specs.Maps.Instance.{Accepted-instance, instance-accepted}
+use Rattle.theory.specs.Maps.Instance.{instance-accepted}
 use Rattle.theory.specs.Maps.Moves.{Legals, is-legal, are-legal, legal-all}
 use Rattle.theory.specs.Maps.Inside.{act, arr-away, arr-leave, arr-enter}
 use Rattle.theory.specs.Maps.Tracks.{Tracks, tracks-all}

@@ -1,11 +1,7 @@
 -- What is claimed of one zone's configurations and of plans: Ryan's Theorem 1.
-use mathlib.Core.Path.{_≡_}
-use mathlib.Core.List.{List}
-use Rattle.spec.specs.Arrangement.{Move}
 use Rattle.spec.specs.ZoneKind.{leave, enter, end}
-use Rattle.spec.specs.State.{Step, drawnSteps}
-use Rattle.spec.specs.Services.{Instance}
-use Rattle.spec.specs.Terms.{Leaving, Entering, Ending, Abstract, start, goal, Ryan, AnyLength}
+use Rattle.spec.specs.State.{drawnSteps}
+use Rattle.spec.specs.Terms.{Leaving, Entering, Ending, start, Ryan, AnyLength}
 use Rattle.theory.specs.Maps.Moves.{are-legal, legal-all}
 use Rattle.theory.specs.Maps.Instance.{instance-accepted}
 use Rattle.theory.specs.Zones.Kinds.{laws}

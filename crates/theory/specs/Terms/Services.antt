@@ -1,26 +1,25 @@
 -- What is claimed of the four services.
 use mathlib.Core.Path.{_≡_, refl, sym, ap, _∙_}
 use mathlib.Core.Logic.{_≢_}
-use mathlib.Core.List.{List, [], _∷_, _++_}
-use Prim.Native.Nat.{ℕ, _-_, _*_, _≤_, _<_}
+use mathlib.Core.List.{List, [], _++_}
+use Prim.Native.Nat.{ℕ, _-_, _≤_}
 use native.Mathlib.Omega.{arith}
 use lib.ListN.{length, take, replicate}
 use lib.Seq.{take-at}
 use lib.Dec.{T}
 use Rattle.spec.specs.Outcome.{Outcome, ok, refuse, _>>=_, member, u16}
-use Rattle.spec.specs.Wire.{fileOf}
 use Rattle.spec.specs.Arrangement.{Move}
-use Rattle.spec.specs.State.{Step, drawnSteps, planPayload, movesPayload, roundsPayload}
-use Rattle.spec.specs.Services.{Answer, Instance, instanceOf, fits, answerOf, planMoves, judging, resolving, drawing, rounds}
-use Rattle.spec.specs.Terms.{start, planNumbers, listNumbers, answerNumbers, moveFile, planFile, sheetFile, writes, Within, Answers, Left, controller, Bytes, Zeroed, Listed, Refuses, Resolves, Cleared, Draws, Drawn, RoundTrip, Times, Timed, Sound, Complete, Terms, Ryan}
-use Rattle.theory.specs.Basics.Outcomes.{ok-injective, bound, bind}
+use Rattle.spec.specs.State.{drawnSteps, movesPayload, roundsPayload}
+use Rattle.spec.specs.Services.{fits, answerOf, planMoves, judging, resolving, drawing, rounds}
+use Rattle.spec.specs.Terms.{start, planNumbers, listNumbers, answerNumbers, moveFile, planFile, writes, Within, controller, Zeroed, Listed, Refuses, Resolves, Cleared, Draws, Drawn, RoundTrip, Times, Timed, Sound, Complete, Terms, Ryan}
+use Rattle.theory.specs.Basics.Outcomes.{ok-injective, bound}
 use Rattle.theory.specs.Maps.Moves.{legal-all}
 use Rattle.theory.specs.Plans.MoveList.{moves-length}
 use Rattle.theory.specs.Plans.Resolve.{plan-length}
 use Rattle.theory.specs.Services.Refusals.{Numbered, numbered-bind, numbered-plan}
-use Rattle.theory.specs.Services.Answers.{refusal, number-listed, number-zero, left, answer-listed, answer-left, answer-of, answer-zero, answer-refused}
-use Rattle.theory.specs.Services.Judged.{Cleared-plan, cleared-plan, cleared-file, abstract-cleared}
-use Rattle.theory.specs.Services.Replayed.{Replay, replay, planOf, sheetOf, drawing-is, rounds-is, numbered-replay, Replayed, replay-sound, replay-complete}
+use Rattle.theory.specs.Services.Answers.{number-listed, number-zero, left, answer-listed, answer-left, answer-of, answer-zero}
+use Rattle.theory.specs.Services.Judged.{cleared-plan, cleared-file, abstract-cleared}
+use Rattle.theory.specs.Services.Replayed.{Replay, replay, planOf, sheetOf, drawing-is, rounds-is, numbered-replay, replay-sound, replay-complete}
 use Rattle.theory.specs.Terms.Plans.{ryan}
 
 -- ---- the services as checks and a file
