@@ -28,6 +28,7 @@ zoned m g = record {
       (e, sym (a .2) ∙ ap₂ {C = ℕ} (λ w x. indexOf w (zoneAt m x .vertices)) (p .vertex ∙ sym (q .vertex)) e ∙ b .2);
   inside = λ v z i p. rw (p .vertex) at (g .inside z i (p .zone) (p .place) .0);
   joins = g .near;
+  stacks = g .stacks;
 }
 
 -- each vertex is in exactly one zone and place, and zones are joined as their kinds say
