@@ -26,13 +26,13 @@ use Rattle.theory.specs.Plans.Walk.{Walk, halt, walk}
 
 module _ (m : Map) (g : Accepted m) where
   -- who stands on a vertex stands at its place
-  on-cell : (s : State) (v r : ℕ) → v < m .size → r ≢ 255 → robotOn s v ≡ r → cell (arr m s (zoneOf m v)) (place m v) ≡ suc r
+  pub on-cell : (s : State) (v r : ℕ) → v < m .size → r ≢ 255 → robotOn s v ≡ r → cell (arr m s (zoneOf m v)) (place m v) ≡ suc r
   on-cell s v r h n e =
       let p = g .placed v h in
       arr-cell s (zoneAt m (zoneOf m v)) (place m v) (p .1) ∙ rw (p .2, e) (cell-of n)
 
   -- and the place of an empty vertex is empty
-  off-cell : (s : State) (v : ℕ) → v < m .size → robotOn s v ≡ 255 → cell (arr m s (zoneOf m v)) (place m v) ≡ 0
+  pub off-cell : (s : State) (v : ℕ) → v < m .size → robotOn s v ≡ 255 → cell (arr m s (zoneOf m v)) (place m v) ≡ 0
   off-cell s v h e =
       let p = g .placed v h in
       arr-cell s (zoneAt m (zoneOf m v)) (place m v) (p .1) ∙ rw (p .2) (cell-none e)

@@ -1,11 +1,14 @@
 -- What is claimed of one zone's configurations and of plans: Ryan's Theorem 1.
+use lib.ListN.{length}
 use Rattle.spec.specs.ZoneKind.{leave, enter, end}
-use Rattle.spec.specs.State.{drawnSteps}
-use Rattle.spec.specs.Terms.{Leaving, Entering, Ending, start, Ryan, AnyLength}
+use Rattle.spec.specs.State.{movedAll, drawnSteps}
+use Rattle.spec.specs.Terms.{Leaving, Entering, Ending, start, Ryan, AnyLength, Transitions}
 use Rattle.theory.specs.Maps.Moves.{are-legal, legal-all}
 use Rattle.theory.specs.Maps.Instance.{instance-accepted}
+use Rattle.theory.specs.Maps.Tracks.{tracks-all}
 use Rattle.theory.specs.Zones.Kinds.{laws}
-use Rattle.theory.specs.Plans.Resolve.{arrives, abstract-arrives, concrete-abstract, whole}
+use Rattle.theory.specs.Plans.Transition.{ready-applicable, applicable-ready}
+use Rattle.theory.specs.Plans.Resolve.{start-tracks, arrives, abstract-arrives, concrete-abstract, whole}
 
 -- a robot may leave exactly where a reachable arrangement has it at from
 pub leaving : Leaving
@@ -29,6 +32,15 @@ entering kind a r j behind list d n h f l = (
 pub ending : Ending
 unfolding Ending
 ending kind a g d l = (λ t. (end kind a g, laws kind .ends a g d l t), λ s. laws kind .can-end a g d s)
+
+-- a transition is applicable, zone by zone, exactly where a state of the tuple has it legal
+pub transitions : Transitions
+unfolding Transitions
+transitions a b it xs x i l =
+    let s = instance-accepted a b it i in
+    let k = length (it .placing .starts) in
+    let t = tracks-all (it .graph) (s .accepted) k (s .placed .few) (start-tracks (it .graph) (s .accepted) (it .placing) (s .placed)) (are-legal (it .graph) (start it) xs l) in
+    (applicable-ready (it .graph) (s .accepted) k (s .placed .few) (movedAll (start it) xs) t x, ready-applicable (it .graph) (s .accepted) k (s .placed .few) (movedAll (start it) xs) t x)
 
 -- an abstract plan exists exactly where a legal list to the goals draws its steps
 pub ryan : Ryan

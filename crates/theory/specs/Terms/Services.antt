@@ -1,5 +1,5 @@
 -- What is claimed of the four services.
-use mathlib.Core.Path.{_≡_, refl, sym, ap, _∙_}
+use mathlib.Core.Path.{_≡_, refl, sym, ap, ap₂, _∙_}
 use mathlib.Core.Logic.{_≢_}
 use mathlib.Core.List.{List, [], _++_}
 use Prim.Native.Nat.{ℕ, _-_, _≤_}
@@ -10,8 +10,8 @@ use lib.Dec.{T}
 use Rattle.spec.specs.Outcome.{Outcome, ok, refuse, _>>=_, member, u16}
 use Rattle.spec.specs.Arrangement.{Move}
 use Rattle.spec.specs.State.{drawnSteps, movesPayload, roundsPayload}
-use Rattle.spec.specs.Services.{fits, answerOf, planMoves, judging, resolving, drawing, rounds}
-use Rattle.spec.specs.Terms.{start, planNumbers, listNumbers, answerNumbers, moveFile, planFile, writes, Within, controller, Zeroed, Listed, Refuses, Resolves, Cleared, Draws, Drawn, RoundTrip, Times, Timed, Sound, Complete, Terms, Ryan}
+use Rattle.spec.specs.Services.{Answer, fits, answerOf, planMoves, judging, resolving, drawing, rounds}
+use Rattle.spec.specs.Terms.{start, planNumbers, listNumbers, answerNumbers, moveFile, planFile, writes, Within, controller, Zeroed, Listed, Refuses, Resolves, Cleared, Draws, Drawn, OneList, OnePlan, RoundTrip, Times, Timed, Sound, Complete, Terms, Ryan}
 use Rattle.theory.specs.Basics.Outcomes.{ok-injective, bound}
 use Rattle.theory.specs.Maps.Moves.{legal-all}
 use Rattle.theory.specs.Plans.MoveList.{moves-length}
@@ -19,7 +19,7 @@ use Rattle.theory.specs.Plans.Resolve.{plan-length}
 use Rattle.theory.specs.Services.Refusals.{Numbered, numbered-bind, numbered-plan}
 use Rattle.theory.specs.Services.Answers.{number-listed, number-zero, left, answer-listed, answer-left, answer-of, answer-zero}
 use Rattle.theory.specs.Services.Judged.{cleared-plan, cleared-file, abstract-cleared}
-use Rattle.theory.specs.Services.Replayed.{Replay, replay, planOf, sheetOf, drawing-is, rounds-is, numbered-replay, replay-sound, replay-complete}
+use Rattle.theory.specs.Services.Replayed.{Replay, replay, planOf, sheetOf, drawing-is, rounds-is, numbered-replay, replay-sound, replay-complete, oneList}
 use Rattle.theory.specs.Terms.Plans.{ryan}
 
 -- ---- the services as checks and a file
@@ -134,6 +134,20 @@ drawn a b c room h e =
     let s = replay-sound a b c (w .0) h (w .1) in
     (w .0 .it, s .instance, w .0 .moves, s .reaches, s .file, s .size, x .whole .0 z .0, drawing-is a b c room ∙ x .wrote z)
 
+-- a file that is written is what is read up to its length
+written : (room : ℕ) (x : Answer) (f : List ℕ) → x ≡ writes room f → take (x .value) (x .buffer) ≡ f
+written room x f e = ap (λ (y : Answer). take (y .value) (y .buffer)) e ∙ take-at f (replicate (room - length f) 0) (length f) refl
+
+-- a file has one plan
+pub onePlan : OnePlan drawing
+unfolding OnePlan Drawn OneList
+onePlan a b c room other h e f =
+    let v = drawn a b c room h e in
+    let w = drawn a b c other h f in
+    let i : v .0 ≡ w .0 = ok-injective (sym (v .1) ∙ w .1) in
+    let m : v .2 ≡ w .2 = oneList (v .2) (w .2) (rw (v .4) at (v .5)) (rw (w .4) at (w .5)) (sym (v .4) ∙ w .4) in
+    written room _ _ (v .7) ∙ ap₂ {C = List ℕ} planFile i m ∙ sym (written other _ _ (w .7))
+
 -- rounds answers a legal list to the goals with its round sheet
 pub times : Times rounds
 unfolding Times
@@ -183,8 +197,7 @@ roundTrip a b c room back h e k =
     let s = sound a b c room h e in
     let it = s .0 in
     let xs = s .2 in
-    let list : take (resolving a b c room .value) (resolving a b c room .buffer) ≡ moveFile xs
-    = rw (s .7) (take-at (moveFile xs) (replicate (room - length (moveFile xs)) 0) (length (moveFile xs)) refl) in
+    let list : take (resolving a b c room .value) (resolving a b c room .buffer) ≡ moveFile xs = written room (resolving a b c room) (moveFile xs) (s .7) in
     let size : Within 64 (planFile it xs) = rw (s .4) at (s .5) in
     let fits : length (planFile it xs) ≤ back = rw (s .4) at k in
     let d = draws a b it xs back (s .1) (s .3) (s .6) in
@@ -200,6 +213,7 @@ terms = record {
   cleared = cleared;
   draws = draws;
   drawn = drawn;
+  onePlan = onePlan;
   roundTrip = roundTrip;
   times = times;
   timed = timed;
