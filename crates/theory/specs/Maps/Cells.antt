@@ -46,14 +46,14 @@ unfoldable pub onto : List ℕ → List ℕ → Arrangement
 onto rs vs = map (λ v. cellOf (getD rs v 255)) vs
 
 -- a zone's arrangement is as long as the zone
-pub arr-length : (s : State) (z : Zone) → length (arrangementOf s (z .vertices)) ≡ length (z .vertices)
+pub arrangement-length : (s : State) (z : Zone) → length (arrangementOf s (z .vertices)) ≡ length (z .vertices)
 unfolding arrangementOf
-arr-length s z = length-map (z .vertices) (λ v. cellOf (robotOn s v))
+arrangement-length s z = length-map (z .vertices) (λ v. cellOf (robotOn s v))
 
 -- and holds who stands on its vertices
-pub arr-cell : (s : State) (z : Zone) (l : ℕ) → l < length (z .vertices) → cell (arrangementOf s (z .vertices)) l ≡ cellOf (robotOn s (getD (z .vertices) l 0))
+pub arrangement-cell : (s : State) (z : Zone) (l : ℕ) → l < length (z .vertices) → cell (arrangementOf s (z .vertices)) l ≡ cellOf (robotOn s (getD (z .vertices) l 0))
 unfolding arrangementOf
-arr-cell s z l h = getD-map (λ v. cellOf (robotOn s v)) (z .vertices) l h
+arrangement-cell s z l h = getD-map (λ v. cellOf (robotOn s v)) (z .vertices) l h
 
 module _ (rs vs : List ℕ) (q : ℕ) where
   onto-length : length (onto rs vs) ≡ length vs

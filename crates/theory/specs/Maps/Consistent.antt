@@ -19,22 +19,6 @@ pub record Consistent (m : Map) (k : ℕ) (s : State) : Type 0 where
   pub known : (v : ℕ) → v < m .size → robotOn s v ≢ 255 → robotOn s v < k
   pub once : (u v : ℕ) → u < m .size → v < m .size → robotOn s u ≢ 255 → robotOn s u ≡ robotOn s v → u ≡ v
 
--- the vertex at a place of a zone
-abbrev pub at : Map → ℕ → ℕ → ℕ
-at m z l = getD (zoneAt m z .vertices) l 0
-
--- how many vertices a zone has
-abbrev pub sizeOf : Map → ℕ → ℕ
-sizeOf m z = length (zoneAt m z .vertices)
-
--- the arrangement of a zone
-abbrev pub arr : Map → State → ℕ → Arrangement
-arr m s z = arrangementOf s (zoneAt m z .vertices)
-
--- how many zones there are
-abbrev pub zones : Map → ℕ
-zones m = length (m .zones)
-
 module _ (m : Map) (g : Accepted m) where
   pub legal-after : (k : ℕ) (s : State) (x : Move) (v : ℕ) → Consistent m k s → Legal m s x → After s x v (robotOn (moved s x) v)
   legal-after k s x v h l =

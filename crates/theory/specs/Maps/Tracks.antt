@@ -7,14 +7,14 @@ use native.Mathlib.Omega.{arith}
 use native.Mathlib.Decide.{decLt, ℕ-discrete}
 use lib.ListN.{length, getD, set, length-set}
 use lib.Seq.{getD-set-same, getD-set-other, ext-getD}
-use Rattle.spec.specs.Outcome.{indexOf}
 use Rattle.spec.specs.Layout.{Map, zoneOf, zoneAt}
 use Rattle.spec.specs.Arrangement.{Move, cell}
 use Rattle.spec.specs.State.{State, robotOn, moved, movedAll, cellOf}
+use Rattle.spec.specs.Terms.{vertexAt, sizeOf, arrangementIn, zoneCount, placeOf}
 use Rattle.theory.specs.Maps.Layout.{Accepted}
-use Rattle.theory.specs.Maps.Cells.{cell-of, cell-robot, arr-length, arr-cell}
+use Rattle.theory.specs.Maps.Cells.{cell-of, cell-robot, arrangement-length, arrangement-cell}
 use Rattle.theory.specs.Maps.Moves.{Legal, Legals, stay, go, After, at-to, at-from, at-rest}
-use Rattle.theory.specs.Maps.Consistent.{Consistent, at, sizeOf, arr, zones, legal-after, consistent-moved}
+use Rattle.theory.specs.Maps.Consistent.{Consistent, legal-after, consistent-moved}
 
 -- ---- the vertices of the robots
 
@@ -98,10 +98,10 @@ module _ (m : Map) (g : Accepted m) (k : ℕ) (few : k ≤ 64) where
       case r (no a) = h .out r (omega arith) ∙ sym (i .out r (omega arith))
 
   -- the same robots, the same arrangements
-  pub same-arrangements : (s t : State) → ((v : ℕ) → v < m .size → robotOn s v ≡ robotOn t v) → (z : ℕ) → z < zones m → arr m s z ≡ arr m t z
-  same-arrangements s t e z h = ext-getD 0 _ _ (arr-length s (zoneAt m z) ∙ sym (arr-length t (zoneAt m z)))
-      (λ l a. let b : l < sizeOf m z = omega (arith, arr-length s (zoneAt m z)) in
-      arr-cell s (zoneAt m z) l b ∙ ap cellOf (e (at m z l) (g .inside z l h b .0)) ∙ sym (arr-cell t (zoneAt m z) l b))
+  pub same-arrangements : (s t : State) → ((v : ℕ) → v < m .size → robotOn s v ≡ robotOn t v) → (z : ℕ) → z < zoneCount m → arrangementIn m s z ≡ arrangementIn m t z
+  same-arrangements s t e z h = ext-getD 0 _ _ (arrangement-length s (zoneAt m z) ∙ sym (arrangement-length t (zoneAt m z)))
+      (λ l a. let b : l < sizeOf m z = omega (arith, arrangement-length s (zoneAt m z)) in
+      arrangement-cell s (zoneAt m z) l b ∙ ap cellOf (e (vertexAt m z l) (g .inside z l h b .0)) ∙ sym (arrangement-cell t (zoneAt m z) l b))
 
   cell-injective : (r t : ℕ) → cellOf r ≡ cellOf t → r ≡ t
   cell-injective r t e = case (ℕ-discrete r 255) (ℕ-discrete t 255)
@@ -112,9 +112,9 @@ module _ (m : Map) (g : Accepted m) (k : ℕ) (few : k ≤ 64) where
       case (yes p) (no q) = cell-robot r t (e ∙ cell-of q) .0
 
   -- and the other way
-  pub arrangements-same : (s t : State) → ((z : ℕ) → z < zones m → arr m s z ≡ arr m t z) → (v : ℕ) → v < m .size → robotOn s v ≡ robotOn t v
+  pub arrangements-same : (s t : State) → ((z : ℕ) → z < zoneCount m → arrangementIn m s z ≡ arrangementIn m t z) → (v : ℕ) → v < m .size → robotOn s v ≡ robotOn t v
   arrangements-same s t e v h =
       let p = g .placed v h in
       let z = zoneOf m v in
-      let l = indexOf v (zoneAt m (zoneOf m v) .vertices) in
-      cell-injective _ _ (rw (p .2) at (sym (arr-cell s (zoneAt m z) l (p .1)) ∙ ap (λ a. cell a l) (e z (p .0)) ∙ arr-cell t (zoneAt m z) l (p .1)))
+      let l = placeOf m v in
+      cell-injective _ _ (rw (p .2) at (sym (arrangement-cell s (zoneAt m z) l (p .1)) ∙ ap (λ a. cell a l) (e z (p .0)) ∙ arrangement-cell t (zoneAt m z) l (p .1)))

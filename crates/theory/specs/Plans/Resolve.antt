@@ -20,7 +20,7 @@ use Rattle.theory.specs.Codec.{u16-word, word-u16}
 use Rattle.theory.specs.Maps.Layout.{Accepted}
 use Rattle.theory.specs.Maps.Placing.{Placed}
 use Rattle.theory.specs.Maps.Moves.{Legals, moved-append, legals-append, drawn-append}
-use Rattle.theory.specs.Maps.Consistent.{consistent-all, at, zones}
+use Rattle.theory.specs.Maps.Consistent.{consistent-all}
 use Rattle.theory.specs.Maps.Tracks.{Tracks, tracks-all, same-vertices, arrangements-same, same-robots, same-arrangements}
 use Rattle.theory.specs.Maps.Standing.{standing-tracks}
 use Rattle.theory.specs.Plans.Walk.{Walk, Walked, walked, Reads, steps-read, walkRan, walk-read}

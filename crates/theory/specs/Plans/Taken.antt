@@ -16,18 +16,10 @@ use Rattle.spec.specs.Arrangement.{Move, mv, full}
 use Rattle.spec.specs.ZoneKind.{canLeave, leave, canEnter, enter}
 use Rattle.spec.specs.State.{State, movedAll, across, Step}
 use Rattle.spec.specs.Run.{Ran, stepAt}
+use Rattle.spec.specs.Terms.{arrangementIn, kindOf, placeOf}
 use Rattle.theory.specs.Basics.Tests.{eq→eqb, and-both, and-left, and-right}
 use Rattle.theory.specs.Basics.Outcomes.{ok-injective, pass, passed}
-use Rattle.theory.specs.Maps.Consistent.{at, arr}
 use Rattle.theory.specs.Zones.Crossing.{extraOf, enters}
-
--- the kind of a zone
-abbrev pub kindOf : Map → ℕ → ℕ
-kindOf m z = zoneAt m z .kind
-
--- the place of a vertex in its zone
-abbrev pub place : Map → ℕ → ℕ
-place m v = indexOf v (zoneAt m (zoneOf m v) .vertices)
 
 -- every check of the step passes
 pub record Taken (m : Map) (k : ℕ) (s : State) (r u v behind : ℕ) (list : List ℕ) : Type 0 where
@@ -36,18 +28,18 @@ pub record Taken (m : Map) (k : ℕ) (s : State) (r u v behind : ℕ) (list : Li
   pub to : v < m .size
   pub near : T (joined m u v)
   pub apart : zoneOf m u ≢ zoneOf m v
-  pub leaves : T (canLeave (kindOf m (zoneOf m u)) (arr m s (zoneOf m u)) r (place m u))
-  pub room : T (not (full (arr m s (zoneOf m v))))
-  pub listed : length list ≡ extraOf (kindOf m (zoneOf m v)) (arr m s (zoneOf m v))
-  pub enters : T (canEnter (kindOf m (zoneOf m v)) (arr m s (zoneOf m v)) r (place m v) behind list)
+  pub leaves : T (canLeave (kindOf m (zoneOf m u)) (arrangementIn m s (zoneOf m u)) r (placeOf m u))
+  pub room : T (not (full (arrangementIn m s (zoneOf m v))))
+  pub listed : length list ≡ extraOf (kindOf m (zoneOf m v)) (arrangementIn m s (zoneOf m v))
+  pub enters : T (canEnter (kindOf m (zoneOf m v)) (arrangementIn m s (zoneOf m v)) r (placeOf m v) behind list)
 
 -- the moves in the zone that is left
 abbrev pub leaving : Map → State → ℕ → ℕ → List Move
-leaving m s r u = across (zoneAt m (zoneOf m u) .vertices) (leave (kindOf m (zoneOf m u)) (arr m s (zoneOf m u)) r (place m u))
+leaving m s r u = across (zoneAt m (zoneOf m u) .vertices) (leave (kindOf m (zoneOf m u)) (arrangementIn m s (zoneOf m u)) r (placeOf m u))
 
 -- the moves in the zone that is entered
 abbrev pub entering : Map → State → ℕ → ℕ → List ℕ → List Move
-entering m s v behind list = across (zoneAt m (zoneOf m v) .vertices) (enter (kindOf m (zoneOf m v)) (arr m s (zoneOf m v)) (place m v) behind list)
+entering m s v behind list = across (zoneAt m (zoneOf m v) .vertices) (enter (kindOf m (zoneOf m v)) (arrangementIn m s (zoneOf m v)) (placeOf m v) behind list)
 
 -- the moves of a step
 abbrev pub movesOf : Map → State → ℕ → ℕ → ℕ → ℕ → List ℕ → List Move
@@ -89,13 +81,13 @@ taken-at m k p i o s ran e =
     let f = passed _ _ _ _ _ (d .1) in
     let h = passed _ _ _ _ _ (f .1) in
     let j = passed _ _ _ _ _ (h .1) in
-    let long : o + 4 + extraOf (kindOf m (zoneOf m (getD p (o + 2) 0))) (arr m s (zoneOf m (getD p (o + 2) 0))) ≤ length p = leb→le _ _ (h .0) in
+    let long : o + 4 + extraOf (kindOf m (zoneOf m (getD p (o + 2) 0))) (arrangementIn m s (zoneOf m (getD p (o + 2) 0))) ≤ length p = leb→le _ _ (h .0) in
     rw (← ok-injective (j .1)) (record {
       r = getD p o 0;
       u = getD p (o + 1) 0;
       v = getD p (o + 2) 0;
       behind = getD p (o + 3) 0;
-      list = take (extraOf (kindOf m (zoneOf m (getD p (o + 2) 0))) (arr m s (zoneOf m (getD p (o + 2) 0)))) (drop (o + 4) p);
+      list = take (extraOf (kindOf m (zoneOf m (getD p (o + 2) 0))) (arrangementIn m s (zoneOf m (getD p (o + 2) 0)))) (drop (o + 4) p);
       taken = record {
         robot = ltb→lt _ _ (and-left _ _ (b .0));
         from = ltb→lt _ _ (and-left _ _ (and-right _ _ (b .0)));
@@ -107,7 +99,7 @@ taken-at m k p i o s ran e =
         listed = length-take-le _ (drop (o + 4) p) (omega (arith, length-drop (o + 4) p));
         enters = j .0;
       };
-      bytes = drop-four p o (extraOf (kindOf m (zoneOf m (getD p (o + 2) 0))) (arr m s (zoneOf m (getD p (o + 2) 0)))) (leb→le _ _ (h .0));
+      bytes = drop-four p o (extraOf (kindOf m (zoneOf m (getD p (o + 2) 0))) (arrangementIn m s (zoneOf m (getD p (o + 2) 0)))) (leb→le _ _ (h .0));
       moves = refl;
       state = refl;
     })
@@ -118,14 +110,14 @@ stepOn m k i o s len r u v behind tail = do
   check (leb (o + 4) len) 35 i
   check (ltb r k && ltb u (m .size) && ltb v (m .size)) 36 i
   check (joined m u v && not (eqb (zoneOf m u) (zoneOf m v))) 37 i
-  check (canLeave (kindOf m (zoneOf m u)) (arr m s (zoneOf m u)) r (place m u)) 38 i
-  check (not (full (arr m s (zoneOf m v)))) 39 i
-  check (leb (o + 4 + extraOf (kindOf m (zoneOf m v)) (arr m s (zoneOf m v))) len) 35 i
-  check (canEnter (kindOf m (zoneOf m v)) (arr m s (zoneOf m v)) r (place m v) behind (take (extraOf (kindOf m (zoneOf m v)) (arr m s (zoneOf m v))) tail)) 39 i
+  check (canLeave (kindOf m (zoneOf m u)) (arrangementIn m s (zoneOf m u)) r (placeOf m u)) 38 i
+  check (not (full (arrangementIn m s (zoneOf m v)))) 39 i
+  check (leb (o + 4 + extraOf (kindOf m (zoneOf m v)) (arrangementIn m s (zoneOf m v))) len) 35 i
+  check (canEnter (kindOf m (zoneOf m v)) (arrangementIn m s (zoneOf m v)) r (placeOf m v) behind (take (extraOf (kindOf m (zoneOf m v)) (arrangementIn m s (zoneOf m v))) tail)) 39 i
   ok (record {
-    state = movedAll s (movesOf m s r u v behind (take (extraOf (kindOf m (zoneOf m v)) (arr m s (zoneOf m v))) tail));
-    moves = movesOf m s r u v behind (take (extraOf (kindOf m (zoneOf m v)) (arr m s (zoneOf m v))) tail);
-    next = o + 4 + extraOf (kindOf m (zoneOf m v)) (arr m s (zoneOf m v));
+    state = movedAll s (movesOf m s r u v behind (take (extraOf (kindOf m (zoneOf m v)) (arrangementIn m s (zoneOf m v))) tail));
+    moves = movesOf m s r u v behind (take (extraOf (kindOf m (zoneOf m v)) (arrangementIn m s (zoneOf m v))) tail);
+    next = o + 4 + extraOf (kindOf m (zoneOf m v)) (arrangementIn m s (zoneOf m v));
   })
 
 step-on : (m : Map) (k : ℕ) (p : List ℕ) (i o : ℕ) (s : State)

@@ -2,20 +2,18 @@
 use mathlib.Core.Path.{_≡_, refl, sym, ap, _∙_}
 use mathlib.Core.Logic.{_≢_}
 use mathlib.Core.List.{List}
-use Prim.Native.Nat.{ℕ, suc, _≤_, _<_}
+use Prim.Native.Nat.{ℕ, _≤_, _<_}
 use native.Mathlib.Decide.{ℕ-discrete}
 use lib.Dec.{T}
 use Rattle.spec.specs.Layout.{Map, zoneOf, zoneAt}
-use Rattle.spec.specs.Arrangement.{Arrangement, Move, cell}
+use Rattle.spec.specs.Arrangement.{Move, cell}
 use Rattle.spec.specs.State.{State, robotOn, movedAll, legal, across}
-use Rattle.spec.specs.Terms.{Reachable, SameTuple, IsState, Applicable}
+use Rattle.spec.specs.Terms.{Reachable, SameTuple, IsState, Applicable, vertexAt, sizeOf, arrangementIn, zoneCount, kindOf, placeOf}
 use Rattle.theory.specs.Maps.Layout.{Accepted}
-use Rattle.theory.specs.Maps.Cells.{cell-robot, cell-empty, arr-cell}
-use Rattle.theory.specs.Maps.Moves.{Legal, is-legal, legal-is, Legals, legals-append}
-use Rattle.theory.specs.Maps.Consistent.{Consistent, consistent-all, at, sizeOf, arr, zones}
+use Rattle.theory.specs.Maps.Cells.{cell-robot, cell-empty, arrangement-cell}
+use Rattle.theory.specs.Maps.Moves.{Legal, is-legal, legal-is}
 use Rattle.theory.specs.Maps.Inside.{Acted, act}
 use Rattle.theory.specs.Maps.Tracks.{Tracks, tracks-all}
-use Rattle.theory.specs.Plans.Taken.{kindOf, place}
 use Rattle.theory.specs.Plans.Tuple.{tuple, tuple-at}
 use Rattle.theory.specs.Plans.Crossing.{on-cell, off-cell}
 use Rattle.theory.specs.Zones.Moves.{reach-refl}
@@ -33,8 +31,8 @@ module _ (m : Map) (g : Accepted m) (k : ℕ) (few : k ≤ 64) (s : State) (h : 
       record {
         near = y .near;
         apart = n;
-        leaves = (arr m t (zoneOf m (x .from)), tuple-at m s t p (zoneOf m (x .from)) (g .placed (x .from) (e .0) .0), on-cell m g t (x .from) (x .robot) (e .0) (y .robot) (y .there));
-        enters = (arr m t (zoneOf m (x .to)), tuple-at m s t p (zoneOf m (x .to)) (g .placed (x .to) (e .1) .0), off-cell m g t (x .to) (e .1) (y .free));
+        leaves = (arrangementIn m t (zoneOf m (x .from)), tuple-at m s t p (zoneOf m (x .from)) (g .placed (x .from) (e .0) .0), on-cell m g t (x .from) (x .robot) (e .0) (y .robot) (y .there));
+        enters = (arrangementIn m t (zoneOf m (x .to)), tuple-at m s t p (zoneOf m (x .to)) (g .placed (x .to) (e .1) .0), off-cell m g t (x .to) (e .1) (y .free));
       }
 
   -- where its zones do, the moves inside them lead to a state that has
@@ -50,10 +48,10 @@ module _ (m : Map) (g : Accepted m) (k : ℕ) (few : k ≤ 64) (s : State) (h : 
       e : (x .from < m .size) × (x .to < m .size) × (x .from ≢ x .to)
       e = g .ends (x .from) (x .to) (a .near)
 
-      pu : (zoneOf m (x .from) < zones m) × (place m (x .from) < sizeOf m (zoneOf m (x .from))) × (at m (zoneOf m (x .from)) (place m (x .from)) ≡ x .from)
+      pu : (zoneOf m (x .from) < zoneCount m) × (placeOf m (x .from) < sizeOf m (zoneOf m (x .from))) × (vertexAt m (zoneOf m (x .from)) (placeOf m (x .from)) ≡ x .from)
       pu = g .placed (x .from) (e .0)
 
-      pv : (zoneOf m (x .to) < zones m) × (place m (x .to) < sizeOf m (zoneOf m (x .to))) × (at m (zoneOf m (x .to)) (place m (x .to)) ≡ x .to)
+      pv : (zoneOf m (x .to) < zoneCount m) × (placeOf m (x .to) < sizeOf m (zoneOf m (x .to))) × (vertexAt m (zoneOf m (x .to)) (placeOf m (x .to)) ≡ x .to)
       pv = g .placed (x .to) (e .1)
 
       out : List Move
@@ -80,21 +78,21 @@ module _ (m : Map) (g : Accepted m) (k : ℕ) (few : k ≤ 64) (s : State) (h : 
       tracked : Tracks m k second
       tracked = tracks-all m g k few tracked-first (acted-in .legals)
 
-      at-u : arr m second u ≡ a .leaves .0
+      at-u : arrangementIn m second u ≡ a .leaves .0
       at-u = acted-in .away u (pu .0) (a .apart) ∙ acted-out .here
 
       same : SameTuple m s second
       same = tuple m s second (λ z hz. case z hz (ℕ-discrete z u) (ℕ-discrete z v))
         where
-          case : (z : ℕ) → z < zones m → Dec (z ≡ u) → Dec (z ≡ v) → Reachable (kindOf m z) (arr m s z) (arr m second z)
+          case : (z : ℕ) → z < zoneCount m → Dec (z ≡ u) → Dec (z ≡ v) → Reachable (kindOf m z) (arrangementIn m s z) (arrangementIn m second z)
           case z hz (yes q) w = rw (q, at-u) (a .leaves .1)
           case z hz (no p) (yes q) = rw (q, acted-in .here) (a .enters .1)
-          case z hz (no p) (no q) = rw (acted-in .away z hz q, acted-out .away z hz p) (reach-refl (arr m s z))
+          case z hz (no p) (no q) = rw (acted-in .away z hz q, acted-out .away z hz p) (reach-refl (arrangementIn m s z))
 
       crossing : Legal m second x
       crossing =
-          let c = cell-robot (robotOn second (at m u (place m (x .from)))) (x .robot)
-          (sym (arr-cell second (zoneAt m u) (place m (x .from)) (pu .1)) ∙ ap (λ b. cell b (place m (x .from))) at-u ∙ a .leaves .2) in
-          let d = cell-empty (robotOn second (at m v (place m (x .to))))
-          (sym (arr-cell second (zoneAt m v) (place m (x .to)) (pv .1)) ∙ ap (λ b. cell b (place m (x .to))) (acted-in .here) ∙ a .enters .2) in
+          let c = cell-robot (robotOn second (vertexAt m u (placeOf m (x .from)))) (x .robot)
+          (sym (arrangement-cell second (zoneAt m u) (placeOf m (x .from)) (pu .1)) ∙ ap (λ b. cell b (placeOf m (x .from))) at-u ∙ a .leaves .2) in
+          let d = cell-empty (robotOn second (vertexAt m v (placeOf m (x .to))))
+          (sym (arrangement-cell second (zoneAt m v) (placeOf m (x .to)) (pv .1)) ∙ ap (λ b. cell b (placeOf m (x .to))) (acted-in .here) ∙ a .enters .2) in
           record { near = a .near; robot = λ q. c .1 (c .0 ∙ q); there = rw (pu .2) at (c .0); free = rw (pv .2) at d }

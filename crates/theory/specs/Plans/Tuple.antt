@@ -9,13 +9,12 @@ use Rattle.spec.specs.Outcome.{indexOf}
 use Rattle.spec.specs.Layout.{Map, zoneOf, zoneAt}
 use Rattle.spec.specs.Arrangement.{Move, mv}
 use Rattle.spec.specs.State.{State, moved, movedAll, Step, drawnSteps}
-use Rattle.spec.specs.Terms.{done, _then_, Reachable, SameTuple, Abstract, ends, makes}
+use Rattle.spec.specs.Terms.{done, _then_, Reachable, SameTuple, Abstract, ends, makes, vertexAt, sizeOf, arrangementIn, zoneCount, kindOf, placeOf}
 use Rattle.theory.specs.Maps.Layout.{Accepted}
 use Rattle.theory.specs.Maps.Moves.{Legal, legal-is, Legals, stay, go}
-use Rattle.theory.specs.Maps.Consistent.{Consistent, at, sizeOf, arr, zones}
-use Rattle.theory.specs.Maps.Inside.{arr-within, arr-away, legal-inside, silent-move, crossing-move}
+use Rattle.theory.specs.Maps.Consistent.{Consistent}
+use Rattle.theory.specs.Maps.Inside.{arrangement-within, arrangement-away, legal-inside, silent-move, crossing-move}
 use Rattle.theory.specs.Zones.Moves.{reach-refl, reach-trans}
-use Rattle.theory.specs.Plans.Taken.{kindOf, place}
 use Rattle.theory.specs.Maps.Tracks.{Tracks, tracks-moved}
 
 -- ---- the same configuration in every zone
@@ -24,24 +23,24 @@ module _ (m : Map) where
   -- being in the same tuple is reflexive and transitive
   pub tuple-refl : (s : State) → SameTuple m s s
   unfolding SameTuple
-  tuple-refl s z h = reach-refl (arr m s z)
+  tuple-refl s z h = reach-refl (arrangementIn m s z)
 
   pub tuple-trans : (s t u : State) → SameTuple m s t → SameTuple m t u → SameTuple m s u
   unfolding SameTuple
   tuple-trans s t u p q z h = reach-trans (p z h) (q z h)
 
   -- what it is to be in the same tuple, and how to be
-  pub tuple-at : (s t : State) → SameTuple m s t → (z : ℕ) → z < zones m → Reachable (kindOf m z) (arr m s z) (arr m t z)
+  pub tuple-at : (s t : State) → SameTuple m s t → (z : ℕ) → z < zoneCount m → Reachable (kindOf m z) (arrangementIn m s z) (arrangementIn m t z)
   unfolding SameTuple
   tuple-at s t p = p
 
-  pub tuple : (s t : State) → ((z : ℕ) → z < zones m → Reachable (kindOf m z) (arr m s z) (arr m t z)) → SameTuple m s t
+  pub tuple : (s t : State) → ((z : ℕ) → z < zoneCount m → Reachable (kindOf m z) (arrangementIn m s z) (arrangementIn m t z)) → SameTuple m s t
   unfolding SameTuple
   tuple s t p = p
 
   -- the same arrangements are in the same tuple
-  pub same-tuple : (s t : State) → ((z : ℕ) → z < zones m → arr m s z ≡ arr m t z) → SameTuple m s t
-  same-tuple s t e = tuple s t (λ z h. rw (e z h) (reach-refl (arr m t z)))
+  pub same-tuple : (s t : State) → ((z : ℕ) → z < zoneCount m → arrangementIn m s z ≡ arrangementIn m t z) → SameTuple m s t
+  same-tuple s t e = tuple s t (λ z h. rw (e z h) (reach-refl (arrangementIn m t z)))
 
   -- an abstract plan starts as well from any state of the tuple
   pub abstract-from : (s t : State) {ss : List Step} {g : State} → SameTuple m s t → Abstract m t ss g → Abstract m s ss g
@@ -64,31 +63,31 @@ module _ (m : Map) (g : Accepted m) (k : ℕ) (few : k ≤ 64) where
       z : ℕ
       z = zoneOf m (x .from)
 
-      u : (zoneOf m (x .from) < zones m) × (place m (x .from) < sizeOf m (zoneOf m (x .from))) × (at m (zoneOf m (x .from)) (place m (x .from)) ≡ x .from)
+      u : (zoneOf m (x .from) < zoneCount m) × (placeOf m (x .from) < sizeOf m (zoneOf m (x .from))) × (vertexAt m (zoneOf m (x .from)) (placeOf m (x .from)) ≡ x .from)
       u = g .placed (x .from) (d .0)
 
-      v : (zoneOf m (x .from) < zones m) × (indexOf (x .to) (zoneAt m (zoneOf m (x .from)) .vertices) < sizeOf m (zoneOf m (x .from))) × (at m (zoneOf m (x .from)) (indexOf (x .to) (zoneAt m (zoneOf m (x .from)) .vertices)) ≡ x .to)
+      v : (zoneOf m (x .from) < zoneCount m) × (indexOf (x .to) (zoneAt m (zoneOf m (x .from)) .vertices) < sizeOf m (zoneOf m (x .from))) × (vertexAt m (zoneOf m (x .from)) (indexOf (x .to) (zoneAt m (zoneOf m (x .from)) .vertices)) ≡ x .to)
       v = rw (← e) at (g .placed (x .to) (d .1))
 
       i : ℕ
-      i = place m (x .from)
+      i = placeOf m (x .from)
 
       j : ℕ
       j = indexOf (x .to) (zoneAt m (zoneOf m (x .from)) .vertices)
 
-      same : mv (x .robot) (at m z i) (at m z j) ≡ x
+      same : mv (x .robot) (vertexAt m z i) (vertexAt m z j) ≡ x
       same = λ q. mv (x .robot) (u .2 q) (v .2 q)
 
-      one : Reachable (kindOf m z) (arr m s z) (arr m (moved s x) z)
+      one : Reachable (kindOf m z) (arrangementIn m s z) (arrangementIn m (moved s x) z)
       one =
-          let l′ : Legal m s (mv (x .robot) (at m z i) (at m z j)) = rw same l in
+          let l′ : Legal m s (mv (x .robot) (vertexAt m z i) (vertexAt m z j)) = rw same l in
           let w = legal-inside m g k s h z (u .0) (x .robot) i j (u .1) (v .1) l′ in
-          let e′ : arr m (moved s x) z ≡ set (set (arr m s z) i 0) j (suc (x .robot)) = ap (λ y. arr m (moved s y) z) (sym same) ∙ arr-within m g s z (x .robot) i j (h .rooms) (u .0) (u .1) (v .1) (l .robot) in
+          let e′ : arrangementIn m (moved s x) z ≡ set (set (arrangementIn m s z) i 0) j (suc (x .robot)) = ap (λ y. arrangementIn m (moved s y) z) (sym same) ∙ arrangement-within m g s z (x .robot) i j (h .rooms) (u .0) (u .1) (v .1) (l .robot) in
           rw e′ (mv (x .robot) i j ∷ [], _then_ w done)
 
-      case : (y : ℕ) → y < zones m → Dec (y ≡ zoneOf m (x .from)) → Reachable (kindOf m y) (arr m s y) (arr m (moved s x) y)
+      case : (y : ℕ) → y < zoneCount m → Dec (y ≡ zoneOf m (x .from)) → Reachable (kindOf m y) (arrangementIn m s y) (arrangementIn m (moved s x) y)
       case y hy (yes q) = rw q one
-      case y hy (no q) = rw (arr-away m g s x y hy (λ p. q (sym p)) (λ p. q (sym p ∙ sym e))) (reach-refl (arr m s y))
+      case y hy (no q) = rw (arrangement-away m g s x y hy (λ p. q (sym p)) (λ p. q (sym p ∙ sym e))) (reach-refl (arrangementIn m s y))
 
   -- a legal list is an abstract plan
   pub list-abstract : {s : State} {xs : List Move} → Tracks m k s → Legals m s xs → Abstract m s (drawnSteps m s xs) (movedAll s xs)

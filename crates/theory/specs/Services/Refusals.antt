@@ -3,14 +3,13 @@ use mathlib.Core.Bool.{Bool, true, false}
 use mathlib.Core.List.{List, [], _∷_, _++_}
 use Prim.Native.Nat.{ℕ, zero, suc, _+_, _*_, _/_}
 use lib.ListN.{length, getD, drop, take}
-use lib.Dec.{T, ltb}
+use lib.Dec.{ltb}
 use Rattle.spec.specs.Outcome.{Outcome, ok, refuse, _>>=_, _>>_, check, member}
 use Rattle.spec.specs.Wire.{word, payloadFrom, payloadOf}
 use Rattle.spec.specs.Layout.{Map, Zone, Edge, byteAt, wordAt, readVertices, readHead, readZones, readEdges, kindsFrom, countsOf, zonesOf, edgesOf, mapOf, Placing, readRobots, placingOf}
-use Rattle.spec.specs.Arrangement.{Move}
 use Rattle.spec.specs.State.{State}
 use Rattle.spec.specs.Run.{countOf, stepAt, stepsFrom, goalsFrom, resolvedMoves, movesFrom, onGoals, checkedMoves}
-use Rattle.spec.specs.Services.{Instance, instanceOf, fits, planMoves}
+use Rattle.spec.specs.Services.{instanceOf, fits, planMoves}
 use Rattle.spec.specs.Terms.{mapNumbers, planNumbers, listNumbers, answerNumbers}
 use Rattle.theory.specs.Basics.Lists.{In, in-left, in-right}
 

@@ -1,13 +1,13 @@
 -- Move lists as files: what drawing and rounds accept is a legal list to the goals, and every such list that fits is accepted.
 use mathlib.Core.Path.{_≡_, refl, sym, ap, _∙_}
 use mathlib.Core.List.{List}
-use Prim.Native.Nat.{ℕ, _*_, _≤_, _<_}
+use Prim.Native.Nat.{ℕ, _*_, _≤_}
 use native.Mathlib.Omega.{arith}
 use lib.ListN.{length}
-use Rattle.spec.specs.Outcome.{Outcome, ok, refuse, _>>=_, _>>_}
+use Rattle.spec.specs.Outcome.{Outcome, ok, refuse, _>>=_}
 use Rattle.spec.specs.Wire.{fileOf, payloadOf}
 use Rattle.spec.specs.Arrangement.{Move}
-use Rattle.spec.specs.State.{movedAll, drawnSteps, planPayload, movesPayload, roundsPayload}
+use Rattle.spec.specs.State.{drawnSteps, planPayload, movesPayload, roundsPayload}
 use Rattle.spec.specs.Run.{checkedMoves}
 use Rattle.spec.specs.Services.{Instance, instanceOf, fits, answerOf, drawing, rounds}
 use Rattle.spec.specs.Terms.{Bytes, Within, Reaches, start, moveFile, mapNumbers, listNumbers, OneList}

@@ -9,18 +9,18 @@ use Rattle.spec.specs.Layout.{Map, zoneOf, zoneAt}
 use Rattle.spec.specs.Arrangement.{Move}
 use Rattle.spec.specs.State.{movedAll}
 use Rattle.spec.specs.Services.{Instance, instanceOf}
-use Rattle.spec.specs.Terms.{Zoned, Partition, Consistency, InsideZones, Crossings, start}
+use Rattle.spec.specs.Terms.{Zoned, Partition, Consistency, InsideZones, Crossings, start, placeOf}
 use Rattle.theory.specs.Maps.Layout.{Accepted}
 use Rattle.theory.specs.Maps.Instance.{instance-accepted}
 use Rattle.theory.specs.Maps.Moves.{Legals, is-legal, are-legal, legal-all}
-use Rattle.theory.specs.Maps.Inside.{act, arr-away, arr-leave, arr-enter}
+use Rattle.theory.specs.Maps.Inside.{act, arrangement-away, arrangement-leave, arrangement-enter}
 use Rattle.theory.specs.Maps.Tracks.{Tracks, tracks-all}
 use Rattle.theory.specs.Plans.Resolve.{start-tracks}
 
 -- an accepted map is zoned
 zoned : (m : Map) → Accepted m → Zoned m
 zoned m g = record {
-  placed = λ v h. let p = g .placed v h in (zoneOf m v, indexOf v (zoneAt m (zoneOf m v) .vertices), record { zone = p .0; place = p .1; vertex = p .2 });
+  placed = λ v h. let p = g .placed v h in (zoneOf m v, placeOf m v, record { zone = p .0; place = p .1; vertex = p .2 });
   once = λ v y i z j p q.
       let a = g .inside y i (p .zone) (p .place) in
       let b = g .inside z j (q .zone) (q .place) in
@@ -76,7 +76,7 @@ crossings a b it xs x i l lx n =
     let u = g .placed (x .from) (e .0) in
     let v = g .placed (x .to) (e .1) in
     record {
-      left = arr-leave (it .graph) g (movedAll (start it) xs) x _ _ (omega (arith, t .consistent .rooms, g .small)) (u .0) (u .1) (sym (u .2)) (λ q. n (sym q));
-      entered = arr-enter (it .graph) g (movedAll (start it) xs) x _ _ (omega (arith, t .consistent .rooms, g .small)) (v .0) (v .1) (sym (v .2)) n (y .robot);
-      others = λ y h p q. arr-away (it .graph) g (movedAll (start it) xs) x y h (λ r. p (sym r)) (λ r. q (sym r));
+      left = arrangement-leave (it .graph) g (movedAll (start it) xs) x _ _ (omega (arith, t .consistent .rooms, g .small)) (u .0) (u .1) (sym (u .2)) (λ q. n (sym q));
+      entered = arrangement-enter (it .graph) g (movedAll (start it) xs) x _ _ (omega (arith, t .consistent .rooms, g .small)) (v .0) (v .1) (sym (v .2)) n (y .robot);
+      others = λ y h p q. arrangement-away (it .graph) g (movedAll (start it) xs) x y h (λ r. p (sym r)) (λ r. q (sym r));
     }
