@@ -15,11 +15,12 @@ use Rattle.theory.specs.Basics.Lists.{getD-map}
 
 -- ---- cells
 
--- the cell of a robot, and of nobody
+-- the cell of a robot
 pub cell-of : {r : ℕ} → r ≢ 255 → cellOf r ≡ suc r
 unfolding cellOf
 cell-of {r} h = rw (eqb-false h, cellOf)
 
+-- the cell of nobody
 pub cell-none : {r : ℕ} → r ≡ 255 → cellOf r ≡ 0
 unfolding cellOf
 cell-none {r} h = rw (eqb-true h, cellOf)
@@ -42,6 +43,7 @@ cell-empty r e = go (ℕ-discrete r 255)
 
 -- ---- the arrangement of vertices vs under robots rs
 
+-- the cells of vertices vs under robots rs
 unfoldable pub onto : List ℕ → List ℕ → Arrangement
 onto rs vs = map (λ v. cellOf (getD rs v 255)) vs
 
@@ -56,20 +58,24 @@ unfolding arrangementOf
 arrangement-cell s z l h = getD-map (λ v. cellOf (robotOn s v)) (z .vertices) l h
 
 module _ (rs vs : List ℕ) (q : ℕ) where
+  -- as many cells as vertices
   onto-length : length (onto rs vs) ≡ length vs
   unfolding onto
   onto-length = length-map vs (λ v. cellOf (getD rs v 255))
 
+  -- a cell is its vertex's robot
   onto-cell : (l : ℕ) → l < length vs → cell (onto rs vs) l ≡ cellOf (getD rs (getD vs l 0) 255)
   unfolding onto
   onto-cell l h = getD-map (λ v. cellOf (getD rs v 255)) vs l h
 
+-- a store at no vertex of the zone changes nothing
 pub onto-other : (rs vs : List ℕ) (w q : ℕ) → ((l : ℕ) → l < length vs → getD vs l 0 ≢ w) → onto (set rs w q) vs ≡ onto rs vs
 onto-other rs vs w q h =
     ext-getD 0 _ _ (onto-length (set rs w q) vs q ∙ sym (onto-length rs vs q))
     (λ l k. let j : l < length vs = omega (arith, onto-length (set rs w q) vs q) in
     onto-cell (set rs w q) vs q l j ∙ ap cellOf (getD-set-other rs w (getD vs l 0) q 255 (h l j)) ∙ sym (onto-cell rs vs q l j))
 
+-- a store at a vertex of the zone changes its cell
 pub onto-here : (rs vs : List ℕ) (i q : ℕ) → i < length vs → getD vs i 0 < length rs → ((l : ℕ) → l < length vs → l ≢ i → getD vs l 0 ≢ getD vs i 0)
     → onto (set rs (getD vs i 0) q) vs ≡ set (onto rs vs) i (cellOf q)
 onto-here rs vs i q h k d =

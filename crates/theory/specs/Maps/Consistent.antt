@@ -20,11 +20,13 @@ pub record Consistent (m : Map) (k : ℕ) (s : State) : Type 0 where
   pub once : (u v : ℕ) → u < m .size → v < m .size → robotOn s u ≢ 255 → robotOn s u ≡ robotOn s v → u ≡ v
 
 module _ (m : Map) (g : Accepted m) where
+  -- what stands on a vertex after a legal move
   pub legal-after : (k : ℕ) (s : State) (x : Move) (v : ℕ) → Consistent m k s → Legal m s x → After s x v (robotOn (moved s x) v)
   legal-after k s x v h l =
       let e = g .ends (x .from) (x .to) (l .near) in
       after s x v (omega (arith, h .rooms, g .small)) (omega (arith, h .rooms, g .small)) (e .2)
 
+  -- a move keeps the length of the state
   moved-rooms : (s : State) (x : Move) → length (moved s x .robots) ≡ length (s .robots)
   unfolding moved
   moved-rooms s x = length-set (set (s .robots) (x .from) 255) (x .to) (x .robot) ∙ length-set (s .robots) (x .from) 255

@@ -20,13 +20,16 @@ use Rattle.theory.specs.Maps.Consistent.{Consistent, consistent-moved}
 module _ (m : Map) (g : Accepted m) where
   -- ---- arrangements after a store
 
+  -- two places of a zone have two vertices
   at-apart : (z l i : ℕ) → z < zoneCount m → l < sizeOf m z → i < sizeOf m z → l ≢ i → vertexAt m z l ≢ vertexAt m z i
   at-apart z l i h a b n e = n (sym (g .inside z l h a .2) ∙ ap (λ v. indexOf v (zoneAt m z .vertices)) e ∙ g .inside z i h b .2)
 
+  -- a store at a vertex of a zone changes its place
   set-in : (rs : List ℕ) (z i q : ℕ) → vertexAt m z i < length rs → z < zoneCount m → i < sizeOf m z
       → onto (set rs (vertexAt m z i) q) (zoneAt m z .vertices) ≡ set (onto rs (zoneAt m z .vertices)) i (cellOf q)
   set-in rs z i q r h k = onto-here rs (zoneAt m z .vertices) i q k r (λ l a n. at-apart z l i h a k n)
 
+  -- a store at a vertex of another zone changes nothing
   set-away : (rs : List ℕ) (z w q : ℕ) → z < zoneCount m → zoneOf m w ≢ z → onto (set rs w q) (zoneAt m z .vertices) ≡ onto rs (zoneAt m z .vertices)
   set-away rs z w q h n = onto-other rs (zoneAt m z .vertices) w q (λ l k e. n (rw e at (g .inside z l h k .1)))
 
@@ -99,6 +102,7 @@ module _ (m : Map) (g : Accepted m) where
   crossing-move s x xs e = rw (eqb-false {m = zoneOf m (x .from)} {n = zoneOf m (x .to)} e, drawnSteps)
 
   module _ (k z : ℕ) (hz : z < zoneCount m) where
+    -- one move inside a zone, then the rest
     acted-on : {x : Move} (xs : List Move) {s : State} {b : Arrangement} → Consistent m k s → Inside (kindOf m z) x (arrangementIn m s z)
         → Acted (moved s (mv (x .robot) (vertexAt m z (x .from)) (vertexAt m z (x .to)))) z (across (zoneAt m z .vertices) xs) b → Acted s z (across (zoneAt m z .vertices) (x ∷ xs)) b
     unfolding across acrossMove movedAll

@@ -65,13 +65,16 @@ pub data Zones (n : ℕ) : List ℕ → List Zone → Type 0 where
   a-zone : {z : Zone} {seen : List ℕ} {zs : List Zone} → 1 ≤ z .kind → z .kind ≤ 4 → leastSize (z .kind) ≤ length (z .vertices)
       → Fresh n seen (z .vertices) → Zones n (seen ++ z .vertices) zs → Zones n seen (z ∷ zs)
 
+-- what a place past the last zone gives
 abbrev pub noZone : Zone
 noZone = record { kind = 0; vertices = [] }
 
+-- a vertex of the first zone
 zone-here : (i v : ℕ) (y : Zone) (zs : List Zone) → In v (y .vertices) → zoneFrom i (y ∷ zs) v ≡ i
 unfolding zoneFrom
 zone-here i v y zs h = rw (true-of {b = member v (y .vertices)} h, zoneFrom)
 
+-- a vertex of a later one
 zone-further : (i v : ℕ) (y : Zone) (zs : List Zone) → (In v (y .vertices) → ⊥) → zoneFrom i (y ∷ zs) v ≡ zoneFrom (i + 1) zs v
 unfolding zoneFrom
 zone-further i v y zs h = rw (false-of {b = member v (y .vertices)} h, zoneFrom)
@@ -87,6 +90,7 @@ read-head p o h e =
     rw (← ok-injective (l .1)) (leb→le _ _ (and-left _ _ (c .0)), leb→le _ _ (and-right _ _ (c .0)), leb→le _ _ (l .0))
 
 module _ {n : ℕ} where
+  -- a zone that is read and the zones after it
   zone-after : (h : Head) (seen vs all : List ℕ) (zs : List Zone) → (1 ≤ h .kind) × (h .kind ≤ 4) × (leastSize (h .kind) ≤ h .size) → all ≡ seen ++ vs → Fresh n seen vs → length vs ≡ h .size
       → Zones n all zs → Zones n seen (record { kind = h .kind; vertices = drop (length seen) all } ∷ zs)
   zone-after h seen vs all zs k e f l r =
@@ -109,17 +113,20 @@ module _ {n : ℕ} where
       let ih = read-zones p todo (o + 2 + h .0 .size) (ys ++ (y ∷ [])) (v .0) r (v .2) in
       (y ∷ ih .0, ih .1 ∙ append-assoc ys (y ∷ []) (ih .0), zone-after (h .0) seen (f .0) (v .0) (ih .0) k (f .1) (f .2) (f .3) (ih .2))
 
+  -- no vertex of a zone was seen before
   pub zones-not : {seen : List ℕ} {zs : List Zone} → Zones n seen zs → (z v : ℕ) → z < length zs → In v (getD zs z noZone .vertices) → In v seen → ⊥
   zones-not no-zone z v h i k = not-suc-le-zero h
   zones-not (a-zone a b c f r) zero v h i k = fresh-not f v i k
   zones-not (a-zone {z = y} {seen} a b c f r) (suc z) v h i k = zones-not r z v (le-of-suc-le-suc h) i (in-left v seen (y .vertices) k)
 
+  -- the vertices of a zone are fresh
   pub zones-fresh : {seen : List ℕ} {zs : List Zone} → Zones n seen zs → (z : ℕ) → z < length zs
       → (seen′ : List ℕ) × Fresh n seen′ (getD zs z noZone .vertices)
   zones-fresh no-zone z h = absurd (not-suc-le-zero h)
   zones-fresh (a-zone {seen} a b c f r) zero h = (seen, f)
   zones-fresh (a-zone a b c f r) (suc z) h = zones-fresh r z (le-of-suc-le-suc h)
 
+  -- the kind and the size of a zone
   pub zones-kind : {seen : List ℕ} {zs : List Zone} → Zones n seen zs → (z : ℕ) → z < length zs
       → (1 ≤ getD zs z noZone .kind) × (getD zs z noZone .kind ≤ 4) × (leastSize (getD zs z noZone .kind) ≤ length (getD zs z noZone .vertices))
   zones-kind no-zone z h = absurd (not-suc-le-zero h)

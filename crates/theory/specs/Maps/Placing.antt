@@ -30,6 +30,7 @@ pub record Robots (n todo : ℕ) (ss gs : List ℕ) (pl : Placing) : Type 0 wher
   pub one : length starts ≡ todo
   pub two : length goals ≡ todo
 
+-- robots that are read have fresh starts and goals
 read-robots : (n : ℕ) (p : List ℕ) (todo o : ℕ) (ss gs : List ℕ) (pl : Placing) → readRobots n p todo o ss gs ≡ ok pl → Robots n todo ss gs pl
 unfolding readRobots
 read-robots n p zero o ss gs pl e =

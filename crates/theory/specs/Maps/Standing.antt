@@ -19,17 +19,20 @@ use Rattle.theory.specs.Maps.Tracks.{Tracks}
 
 -- ---- the state with the robots on given vertices
 
+-- putting robots keeps the length
 put-length : (rs : List ℕ) (r : ℕ) (vs : List ℕ) → length (put rs r vs) ≡ length rs
 unfolding put
 put-length rs r [] = refl
 put-length rs r (v ∷ vs) = put-length (set rs v r) (r + 1) vs ∙ length-set rs v r
 
+-- a vertex that is not listed keeps its robot
 put-other : (rs : List ℕ) (r : ℕ) (vs : List ℕ) (w : ℕ) → (In w vs → ⊥) → getD (put rs r vs) w 255 ≡ getD rs w 255
 unfolding put
 put-other rs r [] w n = refl
 put-other rs r (v ∷ vs) w n =
     put-other (set rs v r) (r + 1) vs w (λ i. n (in-tail w v vs i)) ∙ getD-set-other rs v w r 255 (λ e. n (rw e (in-head v vs)))
 
+-- the vertices listed have their robots
 put-at : {n : ℕ} {seen vs : List ℕ} → Fresh n seen vs → (rs : List ℕ) (r i : ℕ) → n ≤ length rs → i < length vs → getD (put rs r vs) (getD vs i 0) 255 ≡ r + i
 unfolding put
 put-at none rs r i h k = absurd (not-suc-le-zero k)
@@ -37,6 +40,7 @@ put-at (more {v} {seen} {vs} l d f) rs r zero h k =
     put-other (set rs v r) (r + 1) vs v (λ i. fresh-not f v i (in-right v seen (v ∷ []) (in-head v []))) ∙ getD-set-same rs v r 255 (omega arith) ∙ sym (add-zero r)
 put-at (more {v} {seen} {vs} l d f) rs r (suc i) h k = put-at f (set rs v r) (r + 1) i (omega (arith, length-set rs v r)) (le-of-suc-le-suc k) ∙ omega arith
 
+-- past the robots there is no vertex
 padding : (vs : List ℕ) (n r : ℕ) → length vs ≤ r → getD (vs ++ replicate n 255) r 255 ≡ 255
 padding [] n r h = getD-uniform n r 255
 padding (v ∷ vs) n zero h = absurd (not-suc-le-zero h)
@@ -48,6 +52,7 @@ module _ (m : Map) (g : Accepted m) (vs : List ℕ) (f : Fresh (m .size) [] vs) 
     stands : (i : ℕ) → i < length vs → getD vs i 0 ≡ v → Stands v i
     empty : Stands v 255
 
+  -- a vertex has the robot that starts there, or none
   stands-on : (v : ℕ) → v < m .size → Stands v (robotOn (standing vs) v)
   unfolding standing
   stands-on v h = case (member v vs) refl

@@ -103,6 +103,7 @@ module _ (m : Map) (g : Accepted m) (k : ℕ) (few : k ≤ 64) where
       (λ l a. let b : l < sizeOf m z = omega (arith, arrangement-length s (zoneAt m z)) in
       arrangement-cell s (zoneAt m z) l b ∙ ap cellOf (e (vertexAt m z l) (g .inside z l h b .0)) ∙ sym (arrangement-cell t (zoneAt m z) l b))
 
+  -- one cell, one robot
   cell-injective : (r t : ℕ) → cellOf r ≡ cellOf t → r ≡ t
   cell-injective r t e = case (ℕ-discrete r 255) (ℕ-discrete t 255)
     where

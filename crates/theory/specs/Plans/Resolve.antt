@@ -53,6 +53,7 @@ pub plan-split : (ss : List Step) → planPayload ss ≡ u16 (length ss) ++ step
 unfolding planPayload
 plan-split ss = refl
 
+-- how long a plan's payload is
 pub plan-length : (ss : List Step) → length (planPayload ss) ≡ 2 + length (stepBytes ss)
 unfolding planPayload u16
 plan-length ss = omega arith
@@ -75,10 +76,11 @@ pub record Concrete (m : Map) (pl : Placing) (ss : List Step) (ms : List Move) :
   pub drawn : drawnSteps m (standing (pl .starts)) ms ≡ ss
 
 module _ (m : Map) (g : Accepted m) (pl : Placing) (pd : Placed (m .size) pl) where
-  -- the starts and the goals are states that track
+  -- the starts are a state that tracks
   pub start-tracks : Tracks m (length (pl .starts)) (standing (pl .starts))
   start-tracks = standing-tracks m g (pl .starts) (pd .starts) (pd .few)
 
+  -- the goals likewise
   pub goal-tracks : Tracks m (length (pl .starts)) (standing (pl .goals))
   goal-tracks = rw (pd .same) (standing-tracks m g (pl .goals) (pd .goals) (omega (arith, pd .same, pd .few)))
 

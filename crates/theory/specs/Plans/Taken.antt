@@ -57,6 +57,7 @@ pub record TakenAt (m : Map) (k : ℕ) (p : List ℕ) (o : ℕ) (s : State) (ran
   pub moves : ran .moves ≡ movesOf m s r u v behind list
   pub state : ran .state ≡ movedAll s (ran .moves)
 
+-- four bytes, those of the list, and the rest
 drop-four : (p : List ℕ) (o e : ℕ) → o + 4 + e ≤ length p
     → drop o p ≡ (getD p o 0 ∷ getD p (o + 1) 0 ∷ getD p (o + 2) 0 ∷ getD p (o + 3) 0 ∷ take e (drop (o + 4) p)) ++ drop (o + 4 + e) p
 drop-four p o e h =
@@ -120,6 +121,7 @@ stepOn m k i o s len r u v behind tail = do
     next = o + 4 + extraOf (kindOf m (zoneOf m v)) (arrangementIn m s (zoneOf m v));
   })
 
+-- stepAt is its body
 step-on : (m : Map) (k : ℕ) (p : List ℕ) (i o : ℕ) (s : State)
     → stepAt m k p i o s ≡ stepOn m k i o s (length p) (getD p o 0) (getD p (o + 1) 0) (getD p (o + 2) 0) (getD p (o + 3) 0) (drop (o + 4) p)
 unfolding stepAt stepOn
@@ -129,6 +131,7 @@ step-on m k p i o s = refl
 abbrev pub ranOf : Map → State → ℕ → ℕ → ℕ → ℕ → ℕ → List ℕ → Ran
 ranOf m s o r u v behind list = record { state = movedAll s (movesOf m s r u v behind list); moves = movesOf m s r u v behind list; next = o + 4 + length list }
 
+-- a step that passes every check goes through the body
 takes-on : (m : Map) (k i o : ℕ) (s : State) (len r u v behind : ℕ) (list tail : List ℕ) → Taken m k s r u v behind list → o + 4 + length list ≤ len
     → take (length list) tail ≡ list → stepOn m k i o s len r u v behind tail ≡ ok (ranOf m s o r u v behind list)
 unfolding stepOn

@@ -20,20 +20,22 @@ use Rattle.theory.specs.Maps.Tracks.{Tracks, tracks-moved}
 -- ---- the same configuration in every zone
 
 module _ (m : Map) where
-  -- being in the same tuple is reflexive and transitive
+  -- being in the same tuple is reflexive
   pub tuple-refl : (s : State) → SameTuple m s s
   unfolding SameTuple
   tuple-refl s z h = reach-refl (arrangementIn m s z)
 
+  -- and transitive
   pub tuple-trans : (s t u : State) → SameTuple m s t → SameTuple m t u → SameTuple m s u
   unfolding SameTuple
   tuple-trans s t u p q z h = reach-trans (p z h) (q z h)
 
-  -- what it is to be in the same tuple, and how to be
+  -- what it is to be in the same tuple
   pub tuple-at : (s t : State) → SameTuple m s t → (z : ℕ) → z < zoneCount m → Reachable (kindOf m z) (arrangementIn m s z) (arrangementIn m t z)
   unfolding SameTuple
   tuple-at s t p = p
 
+  -- states whose zones are in the same configurations are in one tuple
   pub tuple : (s t : State) → ((z : ℕ) → z < zoneCount m → Reachable (kindOf m z) (arrangementIn m s z) (arrangementIn m t z)) → SameTuple m s t
   unfolding SameTuple
   tuple s t p = p

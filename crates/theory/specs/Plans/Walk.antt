@@ -75,6 +75,7 @@ steps-read m k p (suc todo) i o s ran e =
     let b = bound _ _ _ (a .2) in
     rw (← ok-injective (b .2)) (reads-more m k p todo o s (a .0) (b .0) (taken-at m k p i o s (a .0) (a .1)) (steps-read m k p todo (i + 1) (a .0 .next) (a .0 .state) (b .0) (b .1)))
 
+-- a step and the rest are read one after the other
 steps-cons : (m : Map) (k : ℕ) (p : List ℕ) (todo i o : ℕ) (q : State) (one rest : Ran) → stepAt m k p i o q ≡ ok one
     → stepsFrom m k p todo (i + 1) (one .next) (one .state) ≡ ok rest
     → stepsFrom m k p (suc todo) i o q ≡ ok (record { state = rest .state; moves = one .moves ++ rest .moves; next = rest .next })

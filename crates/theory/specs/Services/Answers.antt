@@ -28,6 +28,7 @@ pub payload-within : (kind limit : ℕ) (p : List ℕ) → 1 ≤ length p → Wi
 unfolding blockCount
 payload-within kind limit p h k = omega (arith, file-length kind p h)
 
+-- and the other way
 pub file-within : (kind limit : ℕ) (p : List ℕ) → 1 ≤ length p → length p ≤ 504 * limit → Within limit (fileOf kind p)
 unfolding blockCount
 file-within kind limit p h k = omega (arith, file-length kind p h)
@@ -38,7 +39,7 @@ unfolding check _>>_
 fail true n p g h = absurd (h tt)
 fail false n p g h = refl
 
--- the three answers that a file can have
+-- a file that fits is written
 answers-whole : (limit room : ℕ) (f : List ℕ) → Within limit f → length f ≤ room → Answers limit room f (writes room f)
 answers-whole limit room f h k = record {
   over = (λ e. absurd (omega arith), λ e. absurd (omega arith));
@@ -48,6 +49,7 @@ answers-whole limit room f h k = record {
   wrote = λ e. refl;
 }
 
+-- over its blocks: 61
 answers-over : (limit room : ℕ) (f : List ℕ) → limit * 512 < length f → Answers limit room f (refusal room 61 0)
 answers-over limit room f h = record {
   over = (λ e. h, λ e. refl);
@@ -57,6 +59,7 @@ answers-over limit room f h = record {
   wrote = λ e. absurd (omega arith);
 }
 
+-- longer than the buffer: 60
 answers-short : (limit room : ℕ) (f : List ℕ) → Within limit f → room < length f → Answers limit room f (refusal room 60 0)
 answers-short limit room f h k = record {
   over = (λ e. absurd (omega arith), λ e. absurd (omega arith));
@@ -140,6 +143,7 @@ module _ {A : Type 0} (ns : List ℕ) (o : Outcome A) (numbered : Numbered ns o)
   abbrev pub answer : Answer
   answer = answerOf room (o >>= λ x. fits kind limit room (payload x))
 
+  -- its refusals are the checks' or 61 and 60
   answer-numbered : Numbered (ns ++ answerNumbers) (o >>= λ x. fits kind limit room (payload x))
   answer-numbered = numbered-bind (ns ++ answerNumbers) o (λ x. fits kind limit room (payload x)) (numbered-left ns answerNumbers o numbered)
       (λ x. numbered-right ns answerNumbers (fits kind limit room (payload x)) (numbered-fits kind limit room (payload x)))
@@ -162,8 +166,3 @@ module _ {A : Type 0} (ns : List ℕ) (o : Outcome A) (numbered : Numbered ns o)
       let f = number-zero (ns ++ answerNumbers) z room _ answer-numbered e in
       let w = bound o (λ x. fits kind limit room (payload x)) (f .0) (f .1) in
       (w .0, w .1)
-
-  -- where the checks refuse so does the service
-  pub answer-refused : (n p : ℕ) → o ≡ refuse n p → answer ≡ refusal room n p
-  unfolding _>>=_ answerOf
-  answer-refused n p e = rw e

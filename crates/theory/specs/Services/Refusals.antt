@@ -49,13 +49,14 @@ module _ {A : Type 0} where
   numbered-left ns ms (ok a) h = tt
   numbered-left ns ms (refuse n p) h = in-left n ns ms h
 
+  -- also where they come first
   pub numbered-right : (ns ms : List ℕ) (o : Outcome A) → Numbered ms o → Numbered (ns ++ ms) o
   numbered-right ns ms (ok a) h = tt
   numbered-right ns ms (refuse n p) h = in-right n ns ms h
 
 -- ---- bytes and files
 
--- a byte, or a word, that is not there
+-- a byte that is not there
 numbered-byte : (ns : List ℕ) (n : ℕ) (p : List ℕ) (o : ℕ) → In n ns → Numbered ns (byteAt n p o)
 unfolding byteAt
 numbered-byte ns n p o h = go (ltb o (length p))
@@ -64,6 +65,7 @@ numbered-byte ns n p o h = go (ltb o (length p))
     go true = tt
     go false = h
 
+-- a word that is not there
 numbered-word : (ns : List ℕ) (n : ℕ) (p : List ℕ) (o : ℕ) → In n ns → Numbered ns (wordAt n p o)
 unfolding wordAt
 numbered-word ns n p o h = go (ltb (o + 1) (length p))
@@ -97,13 +99,15 @@ module _ (ns : List ℕ) (base kind : ℕ) (two : In (base + 2) ns) (three : In 
 
 -- ---- maps and placings: 11 to 28
 
+-- a byte of the map or the placing
 abbrev byte : (n : ℕ) (p : List ℕ) (o : ℕ) → In n mapNumbers → Numbered mapNumbers (byteAt n p o)
 byte = numbered-byte mapNumbers
 
--- a field of the map that is not there or out of its range
+-- a field out of its range
 test : {A : Type 0} (b : Bool) (n p : ℕ) (g : Outcome A) → In n mapNumbers → Numbered mapNumbers g → Numbered mapNumbers (check b n p >> g)
 test = numbered-test mapNumbers
 
+-- a field, then the rest
 then-read : {A B : Type 0} (o : Outcome A) (f : A → Outcome B) → Numbered mapNumbers o → ((a : A) → Numbered mapNumbers (f a)) → Numbered mapNumbers (o >>= f)
 then-read = numbered-bind mapNumbers
 
@@ -139,11 +143,12 @@ unfolding kindsFrom member
 numbered-kinds m i [] = tt
 numbered-kinds m i (z ∷ zs) = test _ _ _ _ tt (numbered-kinds m (i + 1) zs)
 
--- the counts, the zones and the edges of a map
+-- the counts of a map
 numbered-counts : (p : List ℕ) → Numbered mapNumbers (countsOf p)
 unfolding countsOf member
 numbered-counts p = then-read _ _ (byte 15 p 0 tt) (λ n. test _ _ _ _ tt (then-read _ _ (byte 15 p 1 tt) (λ z. test _ _ _ _ tt tt)))
 
+-- a map
 numbered-map : (p : List ℕ) → Numbered mapNumbers (mapOf p)
 unfolding mapOf zonesOf edgesOf member
 numbered-map p =
@@ -233,6 +238,7 @@ numbered-list c = numbered-payload listNumbers 40 4 tt tt tt 128 c tt
 
 -- ---- answers: 61 and 60
 
+-- an answer that does not fit
 pub numbered-fits : (kind limit room : ℕ) (p : List ℕ) → Numbered answerNumbers (fits kind limit room p)
 unfolding fits member
 numbered-fits kind limit room p = numbered-test answerNumbers _ _ _ _ tt (numbered-test answerNumbers _ _ _ _ tt tt)

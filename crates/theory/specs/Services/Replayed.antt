@@ -53,17 +53,20 @@ replay-then a b c f = sym (
     ∙ bind-same (payloadOf 40 4 128 c) _ _ (λ p. bind-then (checkedMoves (it .graph) (it .placing) p) _ (λ w. f (w .it) (w .moves))))
     )
 
--- the payloads that drawing and rounds write of it
+-- the plan that drawing writes of it
 abbrev pub planOf : Replay → List ℕ
 planOf w = planPayload (drawnSteps (w .it .graph) (start (w .it)) (w .moves))
 
+-- the round sheet that rounds writes of it
 abbrev pub sheetOf : Replay → List ℕ
 sheetOf w = roundsPayload (w .moves)
 
+-- drawing is the check of the list and then its plan
 pub drawing-is : (a b c : List ℕ) (room : ℕ) → drawing a b c room ≡ answerOf room (replay a b c >>= λ w. fits 3 64 room (planOf w))
 unfolding drawing
 drawing-is a b c room = ap (answerOf room) (replay-then a b c (λ it ms. fits 3 64 room (planPayload (drawnSteps (it .graph) (start it) ms))))
 
+-- rounds is the check of the list and then its round sheet
 pub rounds-is : (a b c : List ℕ) (room : ℕ) → rounds a b c room ≡ answerOf room (replay a b c >>= λ w. fits 5 128 room (sheetOf w))
 unfolding rounds
 rounds-is a b c room = ap (answerOf room) (replay-then a b c (λ it ms. fits 5 128 room (roundsPayload ms)))
@@ -81,6 +84,7 @@ pub record Replayed (a b c : List ℕ) (w : Replay) : Type 0 where
   pub file : c ≡ moveFile (w .moves)
   pub size : Within 128 c
 
+-- what is accepted is so
 pub replay-sound : (a b c : List ℕ) (w : Replay) → Bytes c → replay a b c ≡ ok w → Replayed a b c w
 unfolding replay
 replay-sound a b c w h e =

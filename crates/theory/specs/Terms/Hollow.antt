@@ -38,24 +38,29 @@ all-bytes (x ∷ c) t i = case (ltb x 256) refl t (all-bytes c) i
 mapA : List ℕ
 mapA = fileOf 1 (5 ∷ 2 ∷ 1 ∷ 3 ∷ 0 ∷ 1 ∷ 2 ∷ 2 ∷ 2 ∷ 3 ∷ 4 ∷ 0 ∷ 4 ∷ 0 ∷ 1 ∷ 0 ∷ 3 ∷ 1 ∷ 2 ∷ 3 ∷ 4 ∷ [])
 
+-- its placing
 placingA : List ℕ
 placingA = fileOf 2 (2 ∷ 1 ∷ 4 ∷ 2 ∷ 3 ∷ [])
 
+-- its plan: both robots cross
 planA : List ℕ
 planA = fileOf 3 (0 ∷ 2 ∷ 0 ∷ 0 ∷ 3 ∷ 255 ∷ 1 ∷ 0 ∷ 3 ∷ 255 ∷ [])
 
+-- the plan is bytes
 bytesA : Bytes planA
 unfolding planA fileOf all
 bytesA = all-bytes planA tt
 
+-- and is cleared
 clearedA : judging mapA placingA planA .number ≡ 0
 unfolding judging mapA placingA planA fileOf _>>=_ _>>_ check _&&_ _||_
 clearedA = refl
 
--- a plan with no steps, and with three: there, back and there
+-- a plan with no steps
 noSteps : List ℕ
 noSteps = fileOf 3 (0 ∷ 0 ∷ [])
 
+-- it is bytes
 bytesNone : Bytes noSteps
 unfolding noSteps fileOf all
 bytesNone = all-bytes noSteps tt
@@ -64,16 +69,20 @@ bytesNone = all-bytes noSteps tt
 mapB : List ℕ
 mapB = fileOf 1 (2 ∷ 2 ∷ 1 ∷ 1 ∷ 0 ∷ 2 ∷ 1 ∷ 1 ∷ 0 ∷ 1 ∷ 0 ∷ 1 ∷ [])
 
+-- its placing
 placingB : List ℕ
 placingB = fileOf 2 (1 ∷ 0 ∷ 1 ∷ [])
 
+-- its plan: the robot goes there, back and there
 planB : List ℕ
 planB = fileOf 3 (0 ∷ 3 ∷ 0 ∷ 0 ∷ 1 ∷ 255 ∷ 0 ∷ 1 ∷ 0 ∷ 255 ∷ 0 ∷ 0 ∷ 1 ∷ 255 ∷ [])
 
+-- the plan is bytes
 bytesB : Bytes planB
 unfolding planB fileOf all
 bytesB = all-bytes planB tt
 
+-- its map and placing as they are read
 itB : Instance
 itB = record {
   graph = record {
@@ -84,6 +93,7 @@ itB = record {
   placing = record { starts = 0 ∷ []; goals = 1 ∷ [] };
 }
 
+-- they are read so
 readB : instanceOf mapB placingB ≡ ok itB
 unfolding instanceOf mapB placingB fileOf itB _>>=_ _>>_ check _&&_ _||_
 readB = refl
@@ -102,6 +112,7 @@ same-list room xs ys h k e = oneList xs ys h k (file xs ∙ ap (λ (x : Answer).
 
 -- ---- "turns down every plan": demand 3, second half
 
+-- every plan is refused
 abbrev pub turnsDown : ℕ → ℕ → Judging
 turnsDown n place a b c = refusal 0 n place
 
@@ -112,6 +123,7 @@ turnsDown-out n place h t = h (t mapA placingA planA bytesA .1 (complete mapA pl
 
 -- ---- "clears all with an empty list": demand 3, goals
 
+-- every plan is answered with an empty list
 abbrev pub emptyList : Writing
 emptyList a b c room = writes room (moveFile [])
 
@@ -132,6 +144,7 @@ emptyList-out s =
 
 -- ---- "returns 0 and writes nothing": demand 2
 
+-- every plan is answered with 0 and no bytes
 abbrev pub writesNothing : Writing
 writesNothing a b c room = writes room []
 
@@ -156,6 +169,7 @@ unfoldable pub stepOne : Map → List Move → List Move
 stepOne m [] = []
 stepOne m (x ∷ xs) = elim (eqb (zoneOf m (x .from)) (zoneOf m (x .to))) [ true ↦ x ∷ stepOne m xs | false ↦ x ∷ inside m xs ]
 
+-- the defined list without its later crossings
 unfoldable pub skipsLater : Writing
 skipsLater a b c room = answerOf room (instanceOf a b >>= λ it. planMoves a b c >>= λ ms. fits 4 128 room (movesPayload (stepOne (it .graph) ms)))
 
@@ -199,6 +213,7 @@ invented-out t =
 
 -- ---- "says 60 or 61 before working anything out": demand 1, by the table
 
+-- every plan is answered with n
 abbrev pub early : ℕ → Writing
 early n a b c room = refusal room n 0
 

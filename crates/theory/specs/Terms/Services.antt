@@ -29,10 +29,12 @@ plan-zero : T (member 0 (planNumbers ++ answerNumbers)) → ⊥
 unfolding member
 plan-zero t = t
 
+-- nor of a move list
 list-zero : T (member 0 (listNumbers ++ answerNumbers)) → ⊥
 unfolding member
 list-zero t = t
 
+-- nor of judging
 judge-zero : T (member 0 planNumbers) → ⊥
 unfolding member
 judge-zero t = t
@@ -41,9 +43,11 @@ judge-zero t = t
 some-moves : (xs : List Move) → 1 ≤ length (movesPayload xs)
 some-moves xs = omega (arith, moves-length xs)
 
+-- no plan is
 some-plan : (w : Replay) → 1 ≤ length (planOf w)
 some-plan w = omega (arith, plan-length (drawnSteps (w .it .graph) (start (w .it)) (w .moves)))
 
+-- no round sheet is
 some-sheet : (w : Replay) → 1 ≤ length (sheetOf w)
 unfolding roundsPayload u16
 some-sheet w = omega arith
