@@ -8,13 +8,14 @@ use native.Mathlib.Nat.{zero-add, suc-add}
 use native.Mathlib.Decide.{decLe}
 use native.Mathlib.Omega.{arith}
 use lib.ListN.{length, getD, length-append}
-use lib.Dec.{T, eqb, eqb→eq, leb→le}
-use Rattle.spec.specs.Outcome.{ok, _&&_, indexOf}
+use lib.Dec.{T, eqb, ltb, leb, eqb→eq, leb→le}
+use Rattle.spec.specs.Outcome.{ok, _>>_, check, _&&_}
 use Rattle.spec.specs.Layout.{Map, Zone, Edge, hasEdge, joined, linked, shaped, closed, ofKind, readEdges, edgesOf, mapOf, zoneAt}
 use Rattle.theory.specs.Basics.Tests.{of-true, true-of, and-left, and-right}
 use Rattle.theory.specs.Basics.Outcomes.{ok-injective, passed, bound, seq-ok}
 use Rattle.theory.specs.Zones.CliqueMoves.{near-other}
 use Rattle.theory.specs.Maps.Layout.{Accepted, map-accepted, shaped-at}
+use Rattle.theory.specs.Maps.ZoneSize.{Different, zone-different}
 
 -- ---- counting edges
 
@@ -58,16 +59,12 @@ without-other a b c d (e ∷ es) n t = go (isEdge a b e) refl (isEdge c d e) ref
 abbrev Joins : List Edge → ℕ → ℕ → Type 0
 Joins es u v = T (hasEdge es (min u v) (max u v))
 
--- no vertex stands twice
-abbrev pub Apart : List ℕ → Type 0
-Apart vs = (i j : ℕ) → i < length vs → j < length vs → getD vs i 0 ≡ getD vs j 0 → i ≡ j
-
--- all of them but the first are apart too
-apart-rest : (v : ℕ) (vs : List ℕ) → Apart (v ∷ vs) → Apart vs
-apart-rest v vs d i j h k e = omega (arith, d (suc i) (suc j) (omega arith) (omega arith) e)
+-- different numbers are different without the first
+different-rest : (v : ℕ) (vs : List ℕ) → Different (v ∷ vs) → Different vs
+different-rest v vs d i j h k e = omega (arith, d (suc i) (suc j) (omega arith) (omega arith) e)
 
 -- the edges of a vertex v to each of vs, taken out: as many as vs, and every edge without v stays
-star : (v : ℕ) (vs : List ℕ) (es : List Edge) → Apart (v ∷ vs) → ((i : ℕ) → i < length vs → Joins es v (getD vs i 0))
+star : (v : ℕ) (vs : List ℕ) (es : List Edge) → Different (v ∷ vs) → ((i : ℕ) → i < length vs → Joins es v (getD vs i 0))
     → (ds : List Edge) × (length vs + length ds ≤ length es) × ((c d : ℕ) → c ≢ v → d ≢ v → Joins es c d → Joins ds c d)
 star v [] es d h = (es, omega arith, λ x y n k t. t)
 star v (w ∷ vs) es d h =
@@ -82,7 +79,7 @@ star v (w ∷ vs) es d h =
       λ x y n k j. s .2 x y n k (without-other (min v w) (max v w) (min x y) (max x y) es (λ p q. omega arith) j),
     )
   where
-    rest : Apart (v ∷ vs)
+    rest : Different (v ∷ vs)
     rest zero zero h k e = refl
     rest zero (suc j) h k e = absurd (omega (arith, d 0 (suc (suc j)) (omega arith) (omega arith) e))
     rest (suc i) zero h k e = absurd (omega (arith, d (suc (suc i)) 0 (omega arith) (omega arith) e))
@@ -94,7 +91,7 @@ pairs zero = 0
 pairs (suc n) = n + pairs n
 
 -- vertices that are joined two by two take an edge for each pair
-pub pairs-joined : (vs : List ℕ) (es : List Edge) → Apart vs → ((i j : ℕ) → i < j → j < length vs → Joins es (getD vs i 0) (getD vs j 0)) → pairs (length vs) ≤ length es
+pub pairs-joined : (vs : List ℕ) (es : List Edge) → Different vs → ((i j : ℕ) → i < j → j < length vs → Joins es (getD vs i 0) (getD vs j 0)) → pairs (length vs) ≤ length es
 unfolding pairs
 pairs-joined [] es d h = omega arith
 pairs-joined (v ∷ vs) es d h =
@@ -102,7 +99,7 @@ pairs-joined (v ∷ vs) es d h =
     omega (
       arith,
       s .1,
-      pairs-joined vs (s .0) (apart-rest v vs d) (λ i j k l. s .2 (getD vs i 0) (getD vs j 0)
+      pairs-joined vs (s .0) (different-rest v vs d) (λ i j k l. s .2 (getD vs i 0) (getD vs j 0)
           (λ e. omega (arith, d (suc i) 0 (omega arith) (omega arith) e)) (λ e. omega (arith, d (suc j) 0 (omega arith) (omega arith) e)) (h (suc i) (suc j) (omega arith) (omega arith))),
     )
 
@@ -121,7 +118,7 @@ few-pairs n k h = go (decLe n k)
     go (no l) = let e : n - suc k + suc k ≡ n = omega arith in absurd (omega (arith, rw e at (pairs-more (suc k) (n - suc k))))
 
 -- with at most 2,048 edges at most 64 vertices are joined two by two: 65 have 2,080 pairs
-pub few-joined : (vs : List ℕ) (es : List Edge) → length es ≤ 2048 → Apart vs → ((i j : ℕ) → i < j → j < length vs → Joins es (getD vs i 0) (getD vs j 0)) → length vs ≤ 64
+pub few-joined : (vs : List ℕ) (es : List Edge) → length es ≤ 2048 → Different vs → ((i j : ℕ) → i < j → j < length vs → Joins es (getD vs i 0) (getD vs j 0)) → length vs ≤ 64
 unfolding pairs
 few-joined vs es h d j = few-pairs (length vs) _ (omega (arith, pairs-joined vs es d j))
 
@@ -135,11 +132,11 @@ clique-joins m z e t i j h k =
     of-true s
 
 -- a clique of n vertices takes n * (n - 1) / 2 edges
-pub clique-edges : (m : Map) (z : Zone) → z .kind ≡ 3 → Apart (z .vertices) → T (shaped m z) → pairs (length (z .vertices)) ≤ length (m .edges)
+pub clique-edges : (m : Map) (z : Zone) → z .kind ≡ 3 → Different (z .vertices) → T (shaped m z) → pairs (length (z .vertices)) ≤ length (m .edges)
 clique-edges m z e d t = pairs-joined (z .vertices) (m .edges) d (clique-joins m z e t)
 
 -- where there are at most 2,048 edges a clique has at most 64 vertices
-pub clique-small : (m : Map) (z : Zone) → z .kind ≡ 3 → Apart (z .vertices) → length (m .edges) ≤ 2048 → T (shaped m z) → length (z .vertices) ≤ 64
+pub clique-small : (m : Map) (z : Zone) → z .kind ≡ 3 → Different (z .vertices) → length (m .edges) ≤ 2048 → T (shaped m z) → length (z .vertices) ≤ 64
 clique-small m z e d h t = few-joined (z .vertices) (m .edges) h d (clique-joins m z e t)
 
 -- a zone of its kind has the shape of its kind
@@ -160,9 +157,11 @@ read-length n p zero o least ds es e = ap length (sym (ok-injective e)) ∙ omeg
 read-length n p (suc todo) o least ds es e =
     let a = bound _ _ _ e in
     let b = bound _ _ _ (a .2) in
-    let c = passed _ _ _ _ _ (b .2) in
-    let d : Edge = record { a = a .0; b = b .0 } in
-    read-length n p todo (o + 2) (a .0 * 256 + b .0 + 1) (ds ++ (d ∷ [])) es (c .1) ∙ omega (arith, length-append ds (d ∷ []))
+    one (a .0) (b .0) (b .2) (λ least ds. read-length n p todo (o + 2) least ds es)
+  where
+    one : (u v : ℕ) → (check (ltb u v && ltb v n && leb least (u * 256 + v)) 18 o >> readEdges n p todo (o + 2) (u * 256 + v + 1) (ds ++ (record { a = u; b = v } ∷ []))) ≡ ok es
+        → ((least : ℕ) (ds : List Edge) → readEdges n p todo (o + 2) least ds ≡ ok es → length es ≡ length ds + todo) → length es ≡ length ds + suc todo
+    one u v e ih = ih _ _ (passed _ _ _ _ _ e .1) ∙ omega (arith, length-append ds (record { a = u; b = v } ∷ []))
 
 -- and at most 2,048 may be
 edges-few : (n : ℕ) (p : List ℕ) (o : ℕ) (es : List Edge) → edgesOf n p o ≡ ok es → length es ≤ 2048
@@ -186,15 +185,10 @@ map-edges p m e =
     let f = edges-few (c .0 .vertices) p (z .0 .next) (s .0) (s .1) in
     rw (← ok-injective (k .2)) f
 
--- the vertices of a zone of an accepted map are apart
-pub zone-apart : {m : Map} → Accepted m → (z : ℕ) → z < length (m .zones) → Apart (zoneAt m z .vertices)
-zone-apart {m} g z h i j k l e =
-    sym (g .inside z i h k .2) ∙ ap (λ v. indexOf v (zoneAt m z .vertices)) e ∙ g .inside z j h l .2
-
 -- a clique of an accepted map has at most 64 vertices
 pub clique-size : (p : List ℕ) (m : Map) → mapOf p ≡ ok m → (z : ℕ) → z < length (m .zones) → zoneAt m z .kind ≡ 3 → length (zoneAt m z .vertices) ≤ 64
 clique-size p m e z h k =
-    few-joined (zoneAt m z .vertices) (m .edges) (map-edges p m e) (zone-apart g z h) joins
+    few-joined (zoneAt m z .vertices) (m .edges) (map-edges p m e) (zone-different g z h) joins
   where
     g : Accepted m
     g = map-accepted p m e
