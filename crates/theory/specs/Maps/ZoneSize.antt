@@ -16,6 +16,7 @@ use Rattle.theory.specs.Basics.Outcomes.{ok-injective, passed, bound, se
 use Rattle.theory.specs.Basics.Lists.{getD-map}
 use Rattle.theory.specs.Zones.Arrangements.{cell-inside}
 use Rattle.theory.specs.Zones.Robots.{pigeon}
+use Rattle.theory.specs.Zones.Clique.{named-count}
 use Rattle.theory.specs.Maps.Layout.{Accepted}
 
 -- no number stands twice in the list
@@ -38,12 +39,7 @@ row-cell k zero i h = absurd (omega arith)
 row-cell k (suc n) zero h = omega arith
 row-cell k (suc n) (suc i) h = row-cell (suc k) n i (omega arith) ∙ omega arith
 
--- a list of numbers as robots: all are counted, and each stands where it is listed
-named-count : (vs : List ℕ) → length (order (named vs)) ≡ length vs
-unfolding named order
-named-count [] = refl
-named-count (v ∷ vs) = ap suc (named-count vs)
-
+-- of a list of numbers as robots each stands where it is listed
 named-cell : (vs : List ℕ) (i c : ℕ) → cell (named vs) i ≡ suc c → (i < length vs) × (getD vs i 0 ≡ c)
 unfolding named
 named-cell vs i c e =
