@@ -13,7 +13,7 @@ use Rattle.spec.specs.Outcome.{ok, _>>_, check, _&&_}
 use Rattle.spec.specs.Layout.{Map, Zone, Edge, hasEdge, joined, linked, shaped, closed, ofKind, readEdges, edgesOf, mapOf, zoneAt}
 use Rattle.theory.specs.Basics.Tests.{of-true, true-of, and-left, and-right}
 use Rattle.theory.specs.Basics.Outcomes.{ok-injective, passed, bound, seq-ok}
-use Rattle.theory.specs.Zones.CliqueMoves.{near-other}
+use Rattle.theory.specs.Zones.Clique.Searches.{near-other}
 use Rattle.theory.specs.Maps.Layout.{Accepted, map-accepted, shaped-at}
 use Rattle.theory.specs.Maps.ZoneSize.{Different, zone-different}
 

@@ -16,7 +16,7 @@ use Rattle.theory.specs.Basics.Outcomes.{ok-injective, passed, bound, se
 use Rattle.theory.specs.Basics.Lists.{getD-map}
 use Rattle.theory.specs.Zones.Arrangements.{cell-inside}
 use Rattle.theory.specs.Zones.Robots.{pigeon}
-use Rattle.theory.specs.Zones.Clique.{named-count}
+use Rattle.theory.specs.Zones.Clique.Entering.{named-count}
 use Rattle.theory.specs.Maps.Layout.{Accepted}
 
 -- no number stands twice in the list

@@ -14,11 +14,12 @@ use Rattle.theory.specs.Basics.Tests.{Eqb, same, other, eqb?}
 use Rattle.theory.specs.Zones.Arrangements.{room-left}
 use Rattle.theory.specs.Zones.Moves.{runs-length, runs-full, reach-refl}
 use Rattle.theory.specs.Zones.Robots.{SameRobots, runs-robots}
-use Rattle.theory.specs.Zones.HallOrder.{IsHall, runs-order}
-use Rattle.theory.specs.Zones.Hall.{hall-reach}
-use Rattle.theory.specs.Zones.Clique.{clique-reach}
-use Rattle.theory.specs.Zones.RingTurns.{Turned, runs-turned}
-use Rattle.theory.specs.Zones.Ring.{ring-goes}
+use Rattle.theory.specs.Zones.Hall.Order.{IsHall, runs-order}
+use Rattle.theory.specs.Zones.Hall.Ending.{hall-reach}
+use Rattle.theory.specs.Zones.Clique.Rule.{clique-reach}
+use Rattle.theory.specs.Zones.Ring.Turning.{Turned}
+use Rattle.theory.specs.Zones.Ring.Order.{runs-turned}
+use Rattle.theory.specs.Zones.Ring.Ending.{ring-goes}
 use Rattle.theory.specs.Zones.Kinds.{laws, opens}
 
 -- ---- what is reachable

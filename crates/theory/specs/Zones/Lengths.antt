@@ -17,8 +17,8 @@ use Rattle.spec.specs.Outcome.{indexOf}
 use Rattle.theory.specs.Basics.Lists.{Each, none, _&&&_, _&_, each-append, each-map, each-split}
 use Rattle.theory.specs.Basics.Searches.{seek-le}
 use Rattle.theory.specs.Zones.Arrangements.{order-short}
-use Rattle.theory.specs.Zones.HallOrder.{length-places, rising-places, rising-under}
-use Rattle.theory.specs.Zones.RingTurns.{wrap-lt, wrap-ge}
+use Rattle.theory.specs.Zones.Hall.Places.{length-places, rising-places, rising-under}
+use Rattle.theory.specs.Zones.Ring.Frames.{wrap-lt, wrap-ge}
 use Rattle.theory.specs.Zones.Kinds.{KindOf, clique, ring, hall, kind?, as-hall}
 
 -- moves keep the number of places
