@@ -31,19 +31,21 @@ unfolding across
 across-length vs ms = length-map ms (λ m. acrossMove vs m)
 
 module _ (n : ℕ) (y : Zone) (h : length (y .vertices) ≤ n) (s : State) where
-  -- leaving, entering and ending in a zone of at most n vertices
+  -- leaving a zone of at most n vertices
   leave-few : (r v : ℕ) → length (across (y .vertices) (leave (y .kind) (arrangementOf s (y .vertices)) r (indexOf v (y .vertices)))) ≤ mostMoves n
   leave-few r v =
       let a = arrangementOf s (y .vertices) in
       let ms = leave (y .kind) a r (indexOf v (y .vertices)) in
       omega (arith, across-length (y .vertices) ms, arr-length s y, leave-length (y .kind) a r (indexOf v (y .vertices)) (omega (arith, arr-length s y, index-le v (y .vertices))), most-mono (length a) n (omega (arith, arr-length s y)))
 
+  -- entering such a zone
   enter-few : (v behind : ℕ) (list : List ℕ) → length (across (y .vertices) (enter (y .kind) (arrangementOf s (y .vertices)) (indexOf v (y .vertices)) behind list)) ≤ mostMoves n
   enter-few v behind list =
       let a = arrangementOf s (y .vertices) in
       let ms = enter (y .kind) a (indexOf v (y .vertices)) behind list in
       omega (arith, across-length (y .vertices) ms, enter-length (y .kind) a (indexOf v (y .vertices)) behind list (omega (arith, arr-length s y, index-le v (y .vertices))), most-mono (length a) n (omega (arith, arr-length s y)))
 
+  -- ending in such a zone
   end-few : (g : State) → length (across (y .vertices) (end (y .kind) (arrangementOf s (y .vertices)) (arrangementOf g (y .vertices)))) ≤ mostMoves n
   end-few g =
       let a = arrangementOf s (y .vertices) in
@@ -81,6 +83,7 @@ endings-few n (y ∷ zs) s g (_&&&_ h hs) =
     let ms = across (y .vertices) (end (y .kind) (arrangementOf s (y .vertices)) (arrangementOf g (y .vertices))) in
     omega (arith, endings-few n zs s g hs, end-few n y h s g, length-append ms (endingsFrom zs s g), suc-mul (length zs) (mostMoves n))
 
+-- a bound for the zone of every number is one for each zone of the list
 each-zone : {n : ℕ} (zs : List Zone) → ((z : ℕ) → length (getD zs z (record { kind = 0; vertices = [] }) .vertices) ≤ n) → Each (λ y. length (y .vertices) ≤ n) zs
 each-zone [] h = none
 each-zone (y ∷ zs) h = h 0 & each-zone zs (λ z. h (suc z))

@@ -41,20 +41,22 @@ pub last-empty : (y : ℕ) (a : Arrangement) → y ≡ 0 → lastNamed (y ∷ a)
 unfolding lastNamed
 last-empty y a e = rw e
 
--- an empty cell is not in the order, a robot is
+-- an empty cell is not in the order
 pub order-empty : (y : ℕ) (a : Arrangement) → y ≡ 0 → order (y ∷ a) ≡ order a
 unfolding order
 order-empty y a e = rw e
 
+-- a robot is in the order
 pub order-robot : (y r : ℕ) (a : Arrangement) → y ≡ suc r → order (y ∷ a) ≡ r ∷ order a
 unfolding order
 order-robot y r a e = rw e
 
--- an empty cell is no robot's place, a robot's cell is
+-- an empty cell is no robot's place
 pub places-empty : (k y : ℕ) (a : Arrangement) → y ≡ 0 → places k (y ∷ a) ≡ places (suc k) a
 unfolding places
 places-empty k y a e = rw e
 
+-- a robot's cell is one of the places
 pub places-robot : (k y r : ℕ) (a : Arrangement) → y ≡ suc r → places k (y ∷ a) ≡ k ∷ places (suc k) a
 unfolding places
 places-robot k y r a e = rw e
@@ -74,29 +76,33 @@ pub seek-drop-end : (x : ℕ) (a : Arrangement) (i : ℕ) → length a ≤ i →
 unfolding seek
 seek-drop-end x a i h = rw (drop-of-length-le a h)
 
--- the same of an index
+-- a search for an index from place i on ends there
 pub index-drop-same : (x : ℕ) (xs : List ℕ) (i : ℕ) → i < length xs → x ≡ getD xs i 0 → indexOf x (drop i xs) ≡ 0
 index-drop-same x xs i h e = ap (indexOf x) (drop-cons xs i 0 h) ∙ index-here x (getD xs i 0) (drop (suc i) xs) e
 
+-- or goes on at the next place
 pub index-drop-other : (x : ℕ) (xs : List ℕ) (i : ℕ) → i < length xs → x ≢ getD xs i 0 → indexOf x (drop i xs) ≡ suc (indexOf x (drop (suc i) xs))
 index-drop-other x xs i h n = ap (indexOf x) (drop-cons xs i 0 h) ∙ index-further x (getD xs i 0) (drop (suc i) xs) n
 
+-- past the end there is nothing to search
 pub index-drop-end : (x : ℕ) (xs : List ℕ) (i : ℕ) → length xs ≤ i → indexOf x (drop i xs) ≡ 0
 unfolding indexOf
 index-drop-end x xs i h = rw (drop-of-length-le xs h)
 
--- the same of membership
+-- what stands at place i is a member from there on
 pub member-drop-same : (x : ℕ) (xs : List ℕ) (i : ℕ) → i < length xs → x ≡ getD xs i 0 → member x (drop i xs) ≡ true
 member-drop-same x xs i h e = ap (member x) (drop-cons xs i 0 h) ∙ member-same x (getD xs i 0) (drop (suc i) xs) e
 
+-- another is a member from place i on if it is one from the next place on
 pub member-drop-other : (x : ℕ) (xs : List ℕ) (i : ℕ) → i < length xs → x ≢ getD xs i 0 → member x (drop i xs) ≡ member x (drop (suc i) xs)
 member-drop-other x xs i h n = ap (member x) (drop-cons xs i 0 h) ∙ member-other x (getD xs i 0) (drop (suc i) xs) n
 
+-- past the end there is no member
 pub member-drop-end : (x : ℕ) (xs : List ℕ) (i : ℕ) → length xs ≤ i → member x (drop i xs) ≡ false
 unfolding member
 member-drop-end x xs i h = rw (drop-of-length-le xs h)
 
--- an empty place adds nothing to the order from it on, a robot's place that robot
+-- an empty place adds nothing to the order from it on
 pub order-drop-empty : (a : Arrangement) (i : ℕ) → cell a i ≡ 0 → order (drop i a) ≡ order (drop (suc i) a)
 unfolding order
 order-drop-empty [] zero e = refl
@@ -104,22 +110,24 @@ order-drop-empty [] (suc i) e = refl
 order-drop-empty (x ∷ a) zero e = rw e
 order-drop-empty (x ∷ a) (suc i) e = order-drop-empty a i e
 
+-- a robot's place adds that robot in front
 pub order-drop-robot : (a : Arrangement) (i r : ℕ) → cell a i ≡ suc r → order (drop i a) ≡ r ∷ order (drop (suc i) a)
 unfolding order
 order-drop-robot [] i r e = absurd (omega arith)
 order-drop-robot (x ∷ a) zero r e = rw e
 order-drop-robot (x ∷ a) (suc i) r e = order-drop-robot a i r e
 
--- the same of the places, counted from any k
+-- an empty place adds nothing to the places, counted from any k
 pub places-drop-empty : (k : ℕ) (a : Arrangement) (i : ℕ) → i < length a → cell a i ≡ 0 → places k (drop i a) ≡ places (suc k) (drop (suc i) a)
 places-drop-empty k a i h e = ap (places k) (drop-cons a i 0 h) ∙ places-empty k (cell a i) (drop (suc i) a) e
 
+-- a robot's place is added in front
 pub places-drop-robot : (k : ℕ) (a : Arrangement) (i r : ℕ) → i < length a → cell a i ≡ suc r → places k (drop i a) ≡ k ∷ places (suc k) (drop (suc i) a)
 places-drop-robot k a i r h e = ap (places k) (drop-cons a i 0 h) ∙ places-robot k (cell a i) r (drop (suc i) a) e
 
 -- ---- before place i
 
--- an empty place adds nothing to the order before the next, a robot's place that robot at the end
+-- an empty place adds nothing to the order before the next
 pub order-take-empty : (a : Arrangement) (i : ℕ) → cell a i ≡ 0 → order (take (suc i) a) ≡ order (take i a)
 unfolding order
 order-take-empty [] zero e = refl
@@ -128,6 +136,7 @@ order-take-empty (x ∷ a) zero e = rw e
 order-take-empty (zero ∷ a) (suc i) e = order-take-empty a i e
 order-take-empty (suc r ∷ a) (suc i) e = ap (λ l. r ∷ l) (order-take-empty a i e)
 
+-- a robot's place adds that robot at the end
 pub order-take-robot : (a : Arrangement) (i r : ℕ) → cell a i ≡ suc r → order (take (suc i) a) ≡ order (take i a) ++ r ∷ []
 unfolding order
 order-take-robot [] i r e = absurd (omega arith)
@@ -135,7 +144,7 @@ order-take-robot (x ∷ a) zero r e = rw e
 order-take-robot (zero ∷ a) (suc i) r e = order-take-robot a i r e
 order-take-robot (suc s ∷ a) (suc i) r e = ap (λ l. s ∷ l) (order-take-robot a i r e)
 
--- the same of the places
+-- an empty place adds nothing to the places before the next
 pub places-take-empty : (k : ℕ) (a : Arrangement) (i : ℕ) → cell a i ≡ 0 → places k (take (suc i) a) ≡ places k (take i a)
 unfolding places
 places-take-empty k [] zero e = refl
@@ -144,6 +153,7 @@ places-take-empty k (x ∷ a) zero e = rw e
 places-take-empty k (zero ∷ a) (suc i) e = places-take-empty (suc k) a i e
 places-take-empty k (suc r ∷ a) (suc i) e = ap (λ l. k ∷ l) (places-take-empty (suc k) a i e)
 
+-- a robot's place is added at the end
 pub places-take-robot : (k : ℕ) (a : Arrangement) (i r : ℕ) → cell a i ≡ suc r → places k (take (suc i) a) ≡ places k (take i a) ++ (k + i) ∷ []
 unfolding places
 places-take-robot k [] i r e = absurd (omega arith)
@@ -151,7 +161,7 @@ places-take-robot k (x ∷ a) zero r e = let z : k ≡ k + 0 = omega arith in rw
 places-take-robot k (zero ∷ a) (suc i) r e = rw (add-suc, ← suc-add) (places-take-robot (suc k) a i r e)
 places-take-robot k (suc s ∷ a) (suc i) r e = rw (add-suc, ← suc-add) (ap (λ l. k ∷ l) (places-take-robot (suc k) a i r e))
 
--- the last named stays over an empty place, and is the robot of any other
+-- the last named stays over an empty place
 pub last-take-empty : (a : Arrangement) (i : ℕ) → cell a i ≡ 0 → lastNamed (take (suc i) a) ≡ lastNamed (take i a)
 unfolding lastNamed
 last-take-empty [] zero e = refl
@@ -160,6 +170,7 @@ last-take-empty (x ∷ a) zero e = rw e
 last-take-empty (zero ∷ a) (suc i) e = last-take-empty a i e
 last-take-empty (suc r ∷ a) (suc i) e = ap {B = ℕ} (λ q. elim (eqb q 255) [ true ↦ r | false ↦ q ]) (last-take-empty a i e)
 
+-- a robot is the last named of the places up to its own
 pub last-take-robot : (a : Arrangement) (i r : ℕ) → cell a i ≡ suc r → r ≢ 255 → lastNamed (take (suc i) a) ≡ r
 unfolding lastNamed
 last-take-robot [] i r e n = absurd (omega arith)
@@ -198,6 +209,7 @@ seek-le x (y ∷ a) = go (eqb x y) (seek-le x a)
     go true h = omega arith
     go false h = omega arith
 
+-- so does the search for an index
 pub index-le : (x : ℕ) (xs : List ℕ) → indexOf x xs ≤ length xs
 unfolding indexOf
 index-le x [] = omega arith

@@ -19,6 +19,7 @@ module _ (kind : ℕ) (p : List ℕ) where
   partAt : ℕ → List ℕ
   partAt i = take 504 (drop (i * 504) p)
 
+  -- a part is at most 504 bytes
   part-small : (i : ℕ) → length (partAt i) ≤ 504
   unfolding partAt
   part-small i = omega (arith, length-take 504 (drop (i * 504) p))
@@ -29,6 +30,7 @@ module _ (kind : ℕ) (p : List ℕ) where
   blocks-length i zero = refl
   blocks-length i (suc left) = rw (length-append, block-length kind i (take 504 (drop (i * 504) p)) (part-small i), blocks-length (i + 1) left) (omega arith)
 
+  -- every part but the last is 504 bytes, and the last is not empty
   part-filled : (i left : ℕ) → (i + left) * 504 < length p → length p ≤ (i + suc left) * 504 → T (filled (eqb left 0) (length (partAt i)))
   unfolding filled partAt
   part-filled i zero h k =
@@ -105,6 +107,7 @@ block-bytes kind i part h k =
     (bytes-append head (u16 (length part)) (bytes-cons kind (0 ∷ u16 i) h (bytes-cons 0 (u16 i) (lit< tt) (u16-bytes i))) (u16-bytes (length part))) k)
     (zeros-bytes (504 - length part))) (u16-bytes (checksum body))
 
+-- so are written blocks
 blocks-bytes : (kind : ℕ) (p : List ℕ) (i left : ℕ) → kind < 256 → Bytes p → Bytes (blocksFrom kind p i left)
 unfolding blocksFrom
 blocks-bytes kind p i zero h k = λ j. lit< tt

@@ -21,10 +21,12 @@ use Rattle.theory.specs.Codec.Words.{u16-word, zeros-of, bytes-take, byt
 -- ---- one block
 
 module _ (b : List ℕ) (bytes : Bytes b) (whole : length b ≡ 512) where
+  -- a block's head, byte by byte
   cut-six : b ≡ getD b 0 0 ∷ getD b 1 0 ∷ getD b 2 0 ∷ getD b 3 0 ∷ getD b 4 0 ∷ getD b 5 0 ∷ drop 6 b
   cut-six = drop-cons b 0 0 (omega arith) ∙ ap (λ r. getD b 0 0 ∷ r) (drop-cons b 1 0 (omega arith) ∙ ap (λ r. getD b 1 0 ∷ r) (drop-cons b 2 0 (omega arith)
       ∙ ap (λ r. getD b 2 0 ∷ r) (drop-cons b 3 0 (omega arith) ∙ ap (λ r. getD b 3 0 ∷ r) (drop-cons b 4 0 (omega arith) ∙ ap (λ r. getD b 4 0 ∷ r) (drop-cons b 5 0 (omega arith))))))
 
+  -- a block's checksum, byte by byte
   cut-end : drop 510 b ≡ getD b 510 0 ∷ getD b 511 0 ∷ []
   cut-end = drop-cons b 510 0 (omega arith) ∙ ap (λ r. getD b 510 0 ∷ r) (drop-cons b 511 0 (omega arith) ∙ ap (λ r. getD b 511 0 ∷ r) (rw (← whole) (drop-length b)))
 
@@ -73,6 +75,7 @@ module _ (base kind : ℕ) where
     fill : T (filled (eqb rest 0) (length part))
     follow : payloadFrom base kind (i + 1) rest d (done ++ part) ≡ ok p
 
+  -- a block that passes was written from its part
   first-block : (i rest : ℕ) (b d done p : List ℕ) → Bytes b → length b ≡ 512 → oneBlock base kind i rest b d done ≡ ok p → First i rest b d done p
   unfolding oneBlock fillOk filled
   first-block i rest b d done p h l e =
@@ -100,6 +103,7 @@ module _ (base kind : ℕ) where
     pub over : (i + n) * 504 < length p
     pub most : length p ≤ (i + suc n) * 504
 
+  -- the last block of a file ends the payload
   last-block : (i : ℕ) (f done p : List ℕ) → length f ≡ 512 → length done ≡ i * 504 → First i 0 (take 512 f) (drop 512 f) done p → Written 0 i f done p
   unfolding blocksFrom filled
   last-block i f done p l k o =
@@ -120,6 +124,7 @@ module _ (base kind : ℕ) where
       same : take 504 (drop (i * 504) p) ≡ o .part
       same = ap (λ l. take 504 (drop (i * 504) l)) all ∙ ap (take 504) (drop-at done (o .part) (i * 504) k) ∙ take-all 504 (o .part) top
 
+  -- a block before the last is full, and the payload goes on
   more-block : (n i : ℕ) (f done p : List ℕ) → length done ≡ i * 504 → (o : First i (suc n) (take 512 f) (drop 512 f) done p)
       → (length (done ++ o .part) ≡ (i + 1) * 504 → Written n (i + 1) (drop 512 f) (done ++ o .part) p) → Written (suc n) i f done p
   unfolding blocksFrom filled
@@ -138,6 +143,7 @@ module _ (base kind : ℕ) where
       same : take 504 (drop (i * 504) p) ≡ o .part
       same = ap (λ l. take 504 (drop (i * 504) l)) all ∙ ap (take 504) (drop-at done (o .part ++ w .more) (i * 504) k) ∙ take-at (o .part) (w .more) 504 full
 
+  -- all the blocks of a file that is read were written so
   written-blocks : (n i : ℕ) (f done p : List ℕ) → Bytes f → length f ≡ suc n * 512 → length done ≡ i * 504 → payloadFrom base kind i (suc n) f done ≡ ok p → Written n i f done p
   written-blocks zero i f done p h l k e =
       last-block i f done p (omega arith) k (first-block i 0 (take 512 f) (drop 512 f) done p (bytes-take 512 f h) (omega (arith, length-take 512 f)) (rw payload-step at e))
@@ -162,6 +168,7 @@ written-file base kind limit f p h e =
     let z : suc n ≡ (length p + 503) / 504 = omega (arith, w .over, w .most) in
     (w .file ∙ ap (blocksFrom kind p 0) z, omega (arith, w .over), omega (arith, w .most), omega arith)
 
+-- the payload of blocks of bytes is bytes
 payload-bytes : (base kind n i : ℕ) (f done p : List ℕ) → Bytes f → Bytes done → payloadFrom base kind i n f done ≡ ok p → Bytes p
 unfolding oneBlock
 payload-bytes base kind zero i f done p h k e = rw (sym (ok-injective (sym (payload-none base kind i f done) ∙ e))) k

@@ -28,11 +28,13 @@ row : ℕ → ℕ → Arrangement
 row k zero = []
 row k (suc n) = suc k ∷ row (suc k) n
 
+-- n robots stand in it
 row-count : (k n : ℕ) → length (order (row k n)) ≡ n
 unfolding row order
 row-count k zero = refl
 row-count k (suc n) = ap suc (row-count (suc k) n)
 
+-- the robot of each place
 row-cell : (k n i : ℕ) → i < n → cell (row k n) i ≡ suc (k + i)
 unfolding row
 row-cell k zero i h = absurd (omega arith)

@@ -29,12 +29,13 @@ applied-length a (m ∷ ms) = applied-length (apply a m) ms ∙ length-set (set 
 
 -- ---- halls
 
--- as many moves as places, down or up
+-- as many moves as places, downward
 down-length : (r n j : ℕ) → length (down r n j) ≡ n
 unfolding down
 down-length r zero j = refl
 down-length r (suc n) j = ap suc (down-length r n j)
 
+-- the same upward
 up-length : (r n i : ℕ) → length (up r n i) ≡ n
 unfolding up
 up-length r zero i = refl
@@ -81,32 +82,36 @@ places-length a qs k h g =
     let l = mul-le-mul-right {m = length ts} {n = length a} k (omega (arith, trips-length (order a) (places 0 a) qs, order-short a)) in
     omega (arith, length-append (lowering ts) (raising ts), moves-length k (trips-short (order a) (places-up a k h) g))
 
--- the targets of leaving and entering
+-- the targets below j are up to any k that the places are
 below-up : {k : ℕ} (j : ℕ) {ps : List ℕ} → Each (λ p. p ≤ k) ps → Each (λ p. p ≤ k) (below j ps)
 unfolding below
 below-up j none = none
 below-up j (_&&&_ h hs) = omega arith & below-up j hs
 
+-- and so are those above j, if there is room up to k
 above-up : {k : ℕ} (j : ℕ) {ps : List ℕ} → j + length ps ≤ k → Each (λ p. p ≤ k) ps → Each (λ p. p ≤ k) (above j ps)
 unfolding above
 above-up j l none = none
 above-up j l (_&&&_ h hs) = omega arith & above-up (suc j) (omega arith) hs
 
 module _ (a : Arrangement) (j : ℕ) (h : j ≤ length a) where
-  -- where the robots below and above go
+  -- where the robots below go
   under : (t : ℕ) → Each (λ p. p ≤ length a + length a) (below j (take t (places 0 a)))
   under t = below-up j (each-split (take t (places 0 a)) {ys = drop t (places 0 a)} (rw take-append-drop (places-up a (length a + length a) (omega arith))) .0)
 
+  -- where the robots above go
   over : (t : ℕ) → Each (λ p. p ≤ length a + length a) (above j (drop t (places 0 a)))
   over t = above-up j (omega (arith, length-drop t (places 0 a), length-places 0 a, order-short a))
       (each-split (take t (places 0 a)) {ys = drop t (places 0 a)} (rw take-append-drop (places-up a (length a + length a) (omega arith))) .1)
 
+  -- leaving a hall
   pub hall-leave-length : (r : ℕ) → length (hallLeave a r j) ≤ length a * length a + length a * length a
   unfolding hallLeave
   hall-leave-length r =
       let t = indexOf r (order a) in
       rw mul-add at (places-length a (below j (take t (places 0 a)) ++ j ∷ above j (drop (suc t) (places 0 a))) (length a + length a) (omega arith) (each-append (under t) (omega arith & over (suc t))))
 
+  -- entering a hall
   pub hall-enter-length : (behind : ℕ) → length (hallEnter a j behind) ≤ length a * length a + length a * length a
   unfolding hallEnter
   hall-enter-length behind =
@@ -145,6 +150,7 @@ room-length a j = go (eqb (cell a j) 0)
     go true = omega arith
     go false = omega arith
 
+-- leaving a clique
 pub clique-leave-length : (a : Arrangement) (r j : ℕ) → length (cliqueLeave a r j) ≤ 2
 unfolding cliqueLeave
 clique-leave-length a r j = go (eqb (cell a j) (suc r))
@@ -153,6 +159,7 @@ clique-leave-length a r j = go (eqb (cell a j) (suc r))
     go true = omega arith
     go false = omega (arith, length-append (makeRoom a j) (mv r (seek (suc r) a) j ∷ []), room-length a j)
 
+-- entering a clique
 pub clique-enter-length : (a : Arrangement) (j : ℕ) (list : List ℕ) → length (cliqueEnter a j list) ≤ length a * 2 + 1
 unfolding cliqueEnter
 clique-enter-length a j list = go (lastFree a)
@@ -161,18 +168,20 @@ clique-enter-length a j list = go (lastFree a)
     go true = omega (arith, clique-to-length (length a * 2) a (set (named list) j 0))
     go false = omega (arith, room-length a j)
 
+-- ending in a clique
 pub clique-end-length : (a g : Arrangement) → length (cliqueEnd a g) ≤ length a * 2
 unfolding cliqueEnd
 clique-end-length a g = clique-to-length (length a * 2) a g
 
 -- ---- rings
 
--- each of the robots side by side moves once, and there are no more than places
+-- each of the robots side by side moves once
 shove-length : (k : ℕ) (rs : List ℕ) → length (shove k rs) ≡ length rs
 unfolding shove
 shove-length k [] = refl
 shove-length k (r ∷ rs) = length-append (shove (suc k) rs) (mv r k (suc k) ∷ []) ∙ omega (arith, shove-length (suc k) rs)
 
+-- the robots side by side are no more than the places
 run-length : (a : Arrangement) → length (run a) ≤ length a
 unfolding run
 run-length [] = omega arith
@@ -202,6 +211,7 @@ pushes-length (suc n) a p =
     let q = wrap (length a) (suc p) in
     omega (arith, length-append (push a p) (pushes n b q), push-length a p, rw (applied-length a (push a p)) at (pushes-length n b q), suc-mul n (length a))
 
+-- n turns for an entry take at most n pushes
 pub turn-length : (n : ℕ) (a : Arrangement) (j behind : ℕ) → length (turnFor n a j behind) ≤ n * length a
 unfolding turnFor
 turn-length zero a j behind = omega arith
@@ -224,6 +234,7 @@ ahead-le m p j h k = go (decLt (m + j - p) m)
     go (yes l) = rw (wrap-lt l) (omega arith)
     go (no l) = let f : m ≤ m + j - p = omega arith in rw (wrap-ge f) (omega arith)
 
+-- pushing a robot to a place takes at most a whole turn
 pub push-to-length : (a : Arrangement) (r j : ℕ) → j ≤ length a → length (pushTo a r j) ≤ length a * length a
 unfolding pushTo
 push-to-length a r j h =
@@ -250,6 +261,7 @@ end-at-length a g r h =
       hall-end-length (opened j (applyAll a ms)) (opened j g) (length a) (omega (arith, opened-le j (applyAll a ms), applied-length a ms)) (omega (arith, opened-le j g)),
     )
 
+-- ending in a ring
 pub ring-end-length : (a g : Arrangement) → length g ≤ length a → length (ringEnd a g) ≤ length a * length a + length a * length a
 unfolding ringEnd
 ring-end-length a g h = go (eqb (lowest (order a)) 0)
@@ -269,30 +281,35 @@ pub most-mono : (m n : ℕ) → m ≤ n → mostMoves m ≤ mostMoves n
 unfolding mostMoves
 most-mono m n h = let s = mul-le-mul h h in omega (arith, s, mul-le-mul s h)
 
+-- leaving, by kind
 leave-most : {kind : ℕ} → KindOf kind → (a : Arrangement) (r j : ℕ) → j ≤ length a → length (leave kind a r j) ≤ mostMoves (length a)
 unfolding leave mostMoves ringLeave
 leave-most clique a r j h = omega (arith, clique-leave-length a r j)
 leave-most ring a r j h = omega (arith, push-to-length a r j h)
 leave-most (hall i) a r j h = rw (as-hall i (cliqueLeave a r j) (ringLeave a r j) (hallLeave a r j)) (omega (arith, hall-leave-length a j h r))
 
+-- entering, by kind
 enter-most : {kind : ℕ} → KindOf kind → (a : Arrangement) (j behind : ℕ) (list : List ℕ) → j ≤ length a → length (enter kind a j behind list) ≤ mostMoves (length a)
 unfolding enter mostMoves ringEnter
 enter-most clique a j behind list h = omega (arith, clique-enter-length a j list)
 enter-most ring a j behind list h = omega (arith, turn-length (length a * length a) a j behind)
 enter-most (hall i) a j behind list h = rw (as-hall i (cliqueEnter a j list) (ringEnter a j behind) (hallEnter a j behind)) (omega (arith, hall-enter-length a j h behind))
 
+-- ending, by kind
 end-most : {kind : ℕ} → KindOf kind → (a g : Arrangement) → length g ≤ length a → length (end kind a g) ≤ mostMoves (length a)
 unfolding end mostMoves
 end-most clique a g h = omega (arith, clique-end-length a g)
 end-most ring a g h = omega (arith, ring-end-length a g h)
 end-most (hall i) a g h = rw (as-hall i (cliqueEnd a g) (ringEnd a g) (hallEnd a g)) (omega (arith, hall-end-length a g (length a) (omega arith) h))
 
--- leaving, entering and ending write no more
+-- leaving writes no more than that
 pub leave-length : (kind : ℕ) (a : Arrangement) (r j : ℕ) → j ≤ length a → length (leave kind a r j) ≤ mostMoves (length a)
 leave-length kind a r j h = leave-most (kind? kind) a r j h
 
+-- nor does entering
 pub enter-length : (kind : ℕ) (a : Arrangement) (j behind : ℕ) (list : List ℕ) → j ≤ length a → length (enter kind a j behind list) ≤ mostMoves (length a)
 enter-length kind a j behind list h = enter-most (kind? kind) a j behind list h
 
+-- nor ending
 pub end-length : (kind : ℕ) (a g : Arrangement) → length g ≤ length a → length (end kind a g) ≤ mostMoves (length a)
 end-length kind a g h = end-most (kind? kind) a g h

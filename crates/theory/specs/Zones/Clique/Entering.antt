@@ -21,6 +21,7 @@ use Rattle.theory.specs.Zones.Clique.Leaving.{clear-room}
 
 -- ---- follow lists
 
+-- a list is read back from the arrangement that it names
 robots-named : (list : List ℕ) → robotsOf (named list) ≡ list
 unfolding robotsOf named
 robots-named [] = refl
@@ -38,6 +39,7 @@ length-named : (list : List ℕ) → length (named list) ≡ length list
 unfolding named
 length-named list = length-map list suc
 
+-- all of its robots stand there
 pub named-count : (list : List ℕ) → length (order (named list)) ≡ length list
 unfolding named order
 named-count [] = refl

@@ -31,10 +31,12 @@ hop {p} {q} {a} e f h = record { near = near-other (length a) p q (λ j. omega (
 
 -- ---- the earliest empty target
 
+-- what the search for an empty target finds: one, or the end, where every empty place is empty in the goal
 pub data Gap (a g : Arrangement) : ℕ → Type 0 where
   found : (q c : ℕ) → q < length a → cell a q ≡ 0 → cell g q ≡ suc c → Gap a g q
   closed : (q : ℕ) → length a ≤ q → ((q : ℕ) → cell a q ≡ 0 → cell g q ≡ 0) → Gap a g q
 
+-- it goes on past a place that is no empty target
 gap-on : {a g : Arrangement} {o : ℕ} (x y : ℕ) → (x ≡ 0 → y ≡ 0) → Gap a g o → Gap (x ∷ a) (y ∷ g) (suc o)
 gap-on x y h (found q c k e f) = let l = suc-le-suc k in found (suc q) c l e f
 gap-on {a} {g} x y h (closed q k f) = let l = suc-le-suc k in closed (suc q) l go
@@ -43,6 +45,7 @@ gap-on {a} {g} x y h (closed q k f) = let l = suc-le-suc k in closed (suc q) l g
     go zero e = h e
     go (suc q) e = f q e
 
+-- the search finds so
 pub gap-view : (a g : Arrangement) → length a ≡ length g → Gap a g (openTarget a g)
 unfolding openTarget
 gap-view a [] l = let k : length a ≤ 0 = omega arith in closed 0 k (λ q e. refl)
@@ -53,10 +56,12 @@ gap-view (suc x ∷ a) (suc c ∷ g) l = gap-on (suc x) (suc c) (λ e. omega ari
 
 -- ---- the lowest-numbered robot off its target
 
+-- what the search for a robot off its target finds: one, or none, where every robot is on its target
 pub data Stray (a g : Arrangement) : ℕ → Type 0 where
   astray : (q c : ℕ) → cell g q ≡ suc c → cell a q ≢ suc c → Stray a g (suc c)
   settled : ((q c : ℕ) → cell g q ≡ suc c → cell a q ≡ suc c) → Stray a g 0
 
+-- it goes on past a robot on its target
 stray-on : {a g : Arrangement} {o : ℕ} (x y : ℕ) → ((c : ℕ) → y ≡ suc c → x ≡ suc c) → Stray a g o → Stray (x ∷ a) (y ∷ g) o
 stray-on x y h (astray q c e f) = astray (suc q) c e f
 stray-on {a} {g} x y h (settled f) = settled go
@@ -65,6 +70,7 @@ stray-on {a} {g} x y h (settled f) = settled go
     go zero c e = h c e
     go (suc q) c e = f q c e
 
+-- of two robots off target it finds the lower-numbered
 stray-lesser : {a g : Arrangement} {o : ℕ} (x c : ℕ) → x ≢ suc c → Stray a g o → Stray (x ∷ a) (suc c ∷ g) (lesser (suc c) o)
 unfolding lesser
 stray-lesser x c n (settled f) = astray 0 c refl n
@@ -74,6 +80,7 @@ stray-lesser {a} {g} x c n (astray q d e f) = rw (eqb-false {m = suc d} {n = 0} 
     go (yes h) = let k : min (suc c) (suc d) ≡ suc c = omega arith in rw k (astray 0 c refl n)
     go (no h) = let k : min (suc c) (suc d) ≡ suc d = omega arith in rw k (astray (suc q) d e f)
 
+-- the search finds so
 pub stray-view : (a g : Arrangement) → length a ≡ length g → Stray a g (lowestOff a g)
 unfolding lowestOff
 stray-view a [] l = settled (λ q c e. absurd (omega arith))

@@ -29,9 +29,11 @@ record Cut (a : Arrangement) (named : ℕ) : Type 0 where
   last : lastOf lower ≡ named
   count : lowerThan named a ≡ length lower
 
+-- is the named robot in the hall, or is none named
 behind-ok : Arrangement → ℕ → Bool
 behind-ok a named = elim (eqb named 255) [ true ↦ true | false ↦ member named (order a) ]
 
+-- a robot that is named cuts the order behind itself
 cut-of : (a : Arrangement) (named : ℕ) → Distinct a → T (behind-ok a named) → Cut a named
 unfolding behind-ok lowerThan lastOf
 cut-of a named d h = go (eqb? named 255) h refl
@@ -69,24 +71,30 @@ cut-count a ps qs o n e = go (ended ps) e
 -- ---- the moves
 
 module _ (m j : ℕ) (xs ys ps qs : List ℕ) (r : Rising 0 m (ps ++ qs)) (h : length ps ≡ length xs) (k : length qs ≡ length ys) (f : Fits m j (length xs) (length ys)) where
+  -- the targets below j rise
   low-side : Rising 0 j (below j ps)
   low-side = rising-below {lo = 0} j (rising-cut ps r .0) (omega arith) (omega arith)
 
+  -- the targets above j rise
   high-side : Rising (suc j) m (above j qs)
   high-side = rising-above j (rising-cut ps r .1) (omega arith) (omega arith)
 
+  -- the written moves lead to the targets
   run-parted : {kind : ℕ} → Runs kind (hallMoves (trips (xs ++ ys) (ps ++ qs) (below j ps ++ above j qs))) (cells m (xs ++ ys) (ps ++ qs)) (cells m (xs ++ ys) (below j ps ++ above j qs))
   run-parted = run-trips (xs ++ ys) (ps ++ qs) (below j ps ++ above j qs)
       (simp length-append (omega arith)) (simp (length-append, length-below, length-above) (omega arith)) r (rising-append low-side high-side)
 
+  -- they leave j empty
   cell-parted : cell (cells m (xs ++ ys) (below j ps ++ above j qs)) j ≡ 0
   cell-parted = cell-cells m (xs ++ ys) (below j ps ++ above j qs) j (each-append (each-map (λ p z. omega arith) (rising-under low-side)) (each-map (λ p z. omega arith) (rising-least high-side)))
 
+  -- and the last of those below behind it
   last-parted : lastNamed (take j (cells m (xs ++ ys) (below j ps ++ above j qs))) ≡ lastOf xs
   last-parted =
       ap lastNamed (take-cells j m xs (below j ps) ys (above j qs) (omega arith) (length-below j ps ∙ h) (rising-under low-side) (each-map (λ q z. omega arith) (rising-least high-side)))
       ∙ last-order (cells j xs (below j ps)) ∙ ap lastOf (order-cells xs low-side (length-below j ps ∙ h))
 
+-- the written moves, by the parts of the order and of the places
 enter-is : (a : Arrangement) (j named t : ℕ) (xs ps qs : List ℕ) → order a ≡ xs → lowerThan named a ≡ t → take t (places 0 a) ≡ ps → drop t (places 0 a) ≡ qs → places 0 a ≡ ps ++ qs
     → hallEnter a j named ≡ hallMoves (trips xs (ps ++ qs) (below j ps ++ above j qs))
 unfolding hallEnter toPlaces
@@ -139,6 +147,7 @@ hall-enter {kind} a j named d h =
     at : cells (length a) (w .lower ++ w .higher) (ps ++ qs) ≡ a
     at = rw (s, ← (w .cut)) (cells-order a)
 
+-- the test's two parts, put together
 may-enter : (a : Arrangement) (j named : ℕ) → T (behind-ok a named) → T (room (length a) j (lowerThan named a) (length (order a) - lowerThan named a)) → T (hallCanEnter a j named)
 unfolding hallCanEnter behind-ok
 may-enter a j named h k = and-both (behind-ok a named) (room (length a) j (lowerThan named a) (length (order a) - lowerThan named a)) h k

@@ -29,6 +29,7 @@ pub record Among (a : Arrangement) (r : ℕ) : Type 0 where
   pub cut : order a ≡ lower ++ r ∷ higher
   pub not-lower : Each (λ x. r ≢ x) lower
 
+-- a robot's place cuts the order
 abbrev pub among-at : (a : Arrangement) (r i : ℕ) → Distinct a → cell a i ≡ suc r → Among a r
 among-at a r i d e = record {
   place = i;
@@ -43,9 +44,11 @@ among-at a r i d e = record {
 pub among : (a : Arrangement) (r : ℕ) → Distinct a → T (member r (order a)) → Among a r
 among a r d h = let s = member→cell a r h in among-at a r (s .0) d (s .1)
 
+-- its index is the number of those below it
 pub among-index : {a : Arrangement} {r : ℕ} (w : Among a r) → indexOf r (order a) ≡ length (w .lower)
 among-index {a} {r} w = ap (indexOf r) (w .cut) ∙ index-at (w .lower) (w .higher) (w .not-lower)
 
+-- those below, itself and those above are all the robots
 among-count : {a : Arrangement} {r : ℕ} (w : Among a r) → length (order a) ≡ suc (length (w .lower) + length (w .higher))
 among-count {a} {r} w = ap length (w .cut) ∙ length-append (w .lower) (r ∷ w .higher) ∙ omega arith
 
@@ -60,9 +63,11 @@ split-like (y ∷ xs) x ys [] h = absurd (omega arith)
 split-like (y ∷ xs) x ys (p ∷ l) h = let s = split-like xs x ys l (omega arith) in (p ∷ s .0, s .1, s .2, ap (λ r. p ∷ r) (s .3), ap suc (s .4), s .5)
 
 module _ (m j c : ℕ) (xs ys ps : List ℕ) (p : ℕ) (qs : List ℕ) (r : Rising 0 m (ps ++ p ∷ qs)) (h : length ps ≡ length xs) (k : length qs ≡ length ys) (f : Fits m j (length xs) (length ys)) where
+  -- the targets below j rise
   low-part : Rising 0 j (below j ps)
   low-part = rising-below {lo = 0} j (rising-cut ps r .0) (omega arith) (omega arith)
 
+  -- the written moves lead to the targets
   run-cleared : {kind : ℕ} → Runs kind (hallMoves (trips (xs ++ c ∷ ys) (ps ++ p ∷ qs) (below j ps ++ j ∷ above j qs))) (cells m (xs ++ c ∷ ys) (ps ++ p ∷ qs)) (cells m (xs ++ c ∷ ys) (below j ps ++ j ∷ above j qs))
   run-cleared = run-trips (xs ++ c ∷ ys) (ps ++ p ∷ qs) (below j ps ++ j ∷ above j qs)
       (simp length-append (omega arith)) (simp (length-append, length-below, length-above) (omega arith)) r (rising-join low-part (rising-above j (high (rising-cut ps r .1)) (omega arith) (omega arith)))
@@ -70,9 +75,11 @@ module _ (m j c : ℕ) (xs ys ps : List ℕ) (p : ℕ) (qs : List ℕ) (r : Risi
       high : Rising 0 m (p ∷ qs) → Rising (suc p) m qs
       high (rise h r) = r
 
+  -- they bring the leaver to j
   cell-cleared : cell (cells m (xs ++ c ∷ ys) (below j ps ++ j ∷ above j qs)) j ≡ suc c
   cell-cleared = cell-of m j c xs (below j ps) ys (above j qs) (length-below j ps ∙ h) (omega arith) (rising-under low-part)
 
+-- the written moves, by the parts of the order and of the places
 leave-is : (a : Arrangement) (r j : ℕ) (xs ps : List ℕ) (p : ℕ) (qs : List ℕ) → order a ≡ xs → indexOf r xs ≡ length ps → places 0 a ≡ ps ++ p ∷ qs
     → hallLeave a r j ≡ hallMoves (trips xs (ps ++ p ∷ qs) (below j ps ++ j ∷ above j qs))
 unfolding hallLeave toPlaces

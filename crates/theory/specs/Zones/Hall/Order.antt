@@ -15,6 +15,7 @@ use Rattle.spec.specs.Terms.{joinedPlaces, Inside, Runs, done, _then_}
 use Rattle.theory.specs.Basics.Tests.{Eqb, same, other, eqb?, Ltb, less, more, ltb?}
 use Rattle.theory.specs.Zones.Moves.{Next}
 
+-- a step to the next higher place keeps the order
 keeps-up : (a : Arrangement) (p c : ℕ) → cell a p ≡ suc c → cell a (suc p) ≡ 0 → suc p < length a → order (set (set a p 0) (suc p) (suc c)) ≡ order a
 unfolding order
 keeps-up [] p c e f h = absurd (omega arith)
@@ -23,6 +24,7 @@ keeps-up (x ∷ y ∷ a) zero c e f h = rw (e, f)
 keeps-up (zero ∷ a) (suc p) c e f h = keeps-up a p c e f (le-of-suc-le-suc h)
 keeps-up (suc d ∷ a) (suc p) c e f h = ap (λ r. d ∷ r) (keeps-up a p c e f (le-of-suc-le-suc h))
 
+-- a step to the next lower place keeps the order
 keeps-down : (a : Arrangement) (p c : ℕ) → cell a (suc p) ≡ suc c → cell a p ≡ 0 → order (set (set a (suc p) 0) p (suc c)) ≡ order a
 unfolding order
 keeps-down [] p c e f = refl

@@ -21,18 +21,22 @@ pub data Rising : ℕ → ℕ → List ℕ → Type 0 where
 pub end : {lo hi : ℕ} → lo ≤ hi → Rising lo hi []
 end h = rest h
 
+-- the same of the other constructor
 infixr 60 _◃_
 pub _◃_ : {lo hi p : ℕ} {ps : List ℕ} → lo ≤ p → Rising (suc p) hi ps → Rising lo hi (p ∷ ps)
 h ◃ r = rise h r
 
+-- places that rise from a bound rise from any lower one
 pub rising-from : {lo lo′ hi : ℕ} {ps : List ℕ} → lo ≤ lo′ → Rising lo′ hi ps → Rising lo hi ps
 rising-from h (rest k) = end (omega arith)
 rising-from h (rise k r) = omega arith ◃ r
 
+-- they are at least their lower bound
 pub rising-least : {lo hi : ℕ} {ps : List ℕ} → Rising lo hi ps → Each (λ p. lo ≤ p) ps
 rising-least (rest k) = none
 rising-least (rise k r) = k & each-map (λ p h. omega arith) (rising-least r)
 
+-- the lower bound is at most the upper one
 pub rising-top : {lo hi : ℕ} {ps : List ℕ} → Rising lo hi ps → lo ≤ hi
 rising-top (rest k) = k
 rising-top (rise k r) = omega (arith, rising-top r)
@@ -42,14 +46,17 @@ pub rising-under : {lo hi : ℕ} {ps : List ℕ} → Rising lo hi ps → Each (�
 rising-under (rest h) = none
 rising-under (rise h r) = rising-top r & rising-under r
 
+-- rising places, one place, and rising places above it
 pub rising-join : {lo p hi : ℕ} {ps qs : List ℕ} → Rising lo p ps → Rising (suc p) hi qs → Rising lo hi (ps ++ p ∷ qs)
 rising-join (rest h) s = h ◃ s
 rising-join (rise h r) s = h ◃ rising-join r s
 
+-- rising places below a place and rising places above it
 pub rising-append : {lo p hi : ℕ} {ps qs : List ℕ} → Rising lo p ps → Rising (suc p) hi qs → Rising lo hi (ps ++ qs)
 rising-append (rest h) s = rising-from (omega arith) s
 rising-append (rise h r) s = h ◃ rising-append r s
 
+-- both parts of rising places rise
 pub rising-cut : {lo hi : ℕ} (ps : List ℕ) {qs : List ℕ} → Rising lo hi (ps ++ qs) → Rising lo hi ps × Rising lo hi qs
 rising-cut [] r = (end (rising-top r), r)
 rising-cut (x ∷ ps) (rise h r) = let s = rising-cut ps r in (h ◃ s .0, rising-from (omega arith) (s .1))
@@ -62,6 +69,7 @@ cells m [] ps = replicate m 0
 cells m (c ∷ cs) [] = replicate m 0
 cells m (c ∷ cs) (p ∷ ps) = set (cells m cs ps) p (suc c)
 
+-- it has m places
 pub length-cells : (m : ℕ) (cs ps : List ℕ) → length (cells m cs ps) ≡ m
 unfolding cells
 length-cells m [] ps = length-replicate m 0
@@ -88,6 +96,7 @@ cell-of m j c (x ∷ xs) [] ys qs e h k = absurd (omega arith)
 cell-of m j c (x ∷ xs) (p ∷ ps) ys qs e h (_&&&_ k ks) =
     getD-set-other (cells m (xs ++ c ∷ ys) (ps ++ j ∷ qs)) p j (suc x) 0 (omega arith) ∙ cell-of m j c xs ps ys qs (omega arith) h ks
 
+-- a robot put before all the others is the first of the order
 order-first : (a : Arrangement) (p c : ℕ) → ((i : ℕ) → i ≤ p → cell a i ≡ 0) → p < length a → order (set a p (suc c)) ≡ c ∷ order a
 unfolding order
 order-first [] p c h k = absurd (omega arith)
@@ -95,11 +104,13 @@ order-first (suc x ∷ a) p c h k = absurd (omega (arith, h 0 (omega arith)))
 order-first (zero ∷ a) zero c h k = refl
 order-first (zero ∷ a) (suc p) c h k = order-first a p c (λ i l. h (suc i) (omega arith)) (omega arith)
 
+-- an empty arrangement has no order
 pub order-none : (m : ℕ) → order (replicate m 0) ≡ []
 unfolding order
 order-none zero = refl
 order-none (suc m) = order-none m
 
+-- the order of robots at rising places is the list of them
 pub order-cells : {lo m : ℕ} (cs : List ℕ) {ps : List ℕ} → Rising lo m ps → length ps ≡ length cs → order (cells m cs ps) ≡ cs
 unfolding cells
 order-cells {m} [] (rest h) l = order-none m
@@ -114,12 +125,14 @@ take-empty zero m h = refl
 take-empty (suc j) zero h = absurd (omega arith)
 take-empty (suc j) (suc m) h = ap (λ l. 0 ∷ l) (take-empty j m (omega arith))
 
+-- below all the robots everything is empty
 take-over : (j m : ℕ) (ys qs : List ℕ) → j ≤ m → Each (λ q. j ≤ q) qs → take j (cells m ys qs) ≡ replicate j 0
 unfolding cells
 take-over j m [] qs h k = take-empty j m h
 take-over j m (y ∷ ys) [] h none = take-empty j m h
 take-over j m (y ∷ ys) (q ∷ qs) h (_&&&_ k ks) = take-set-le j (cells m ys qs) q (suc y) k ∙ take-over j m ys qs h ks
 
+-- the places below j hold the robots below j
 pub take-cells : (j m : ℕ) (xs ps ys qs : List ℕ) → j ≤ m → length ps ≡ length xs → Each (λ p. p < j) ps → Each (λ q. j ≤ q) qs → take j (cells m (xs ++ ys) (ps ++ qs)) ≡ cells j xs ps
 unfolding cells
 take-cells j m [] [] ys qs h l k n = take-over j m ys qs h n
@@ -130,12 +143,14 @@ take-cells j m (x ∷ xs) (p ∷ ps) ys qs h l (_&&&_ k ks) n =
 
 -- ---- an arrangement is its robots at their places
 
+-- there are as many places as robots
 pub length-places : (k : ℕ) (a : Arrangement) → length (places k a) ≡ length (order a)
 unfolding places order
 length-places k [] = refl
 length-places k (zero ∷ a) = length-places (suc k) a
 length-places k (suc c ∷ a) = ap suc (length-places (suc k) a)
 
+-- the places of the robots rise, counted from any k
 places-rise : (k : ℕ) (a : Arrangement) → Rising k (k + length a) (places k a)
 unfolding places
 places-rise k [] = end (omega arith)
@@ -147,6 +162,7 @@ pub empty-snoc : (k : ℕ) (a : Arrangement) → replicate (suc k) 0 ++ a ≡ re
 empty-snoc zero a = refl
 empty-snoc (suc k) a = ap (λ r. 0 ∷ r) (empty-snoc k a)
 
+-- an arrangement, behind k empty places, is its robots at their places
 cells-places : (k : ℕ) (a : Arrangement) → cells (k + length a) (order a) (places k a) ≡ replicate k 0 ++ a
 unfolding cells order places
 cells-places k [] = rw (add-zero, append-nil)

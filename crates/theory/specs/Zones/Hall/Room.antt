@@ -9,21 +9,25 @@ use Rattle.spec.specs.Hall.{below, above, room}
 use Rattle.theory.specs.Basics.Tests.{and-left, and-right, and-both}
 use Rattle.theory.specs.Zones.Hall.Places.{Rising, rest, rise, end, _◃_}
 
+-- the targets below j rise where there is room below it
 pub rising-below : {lo u hi : ℕ} (j : ℕ) {ps : List ℕ} → Rising u hi ps → lo ≤ u → lo + length ps ≤ j → Rising lo j (below j ps)
 unfolding below
 rising-below j (rest h) k f = end (omega arith)
 rising-below j (rise h r) k f = omega arith ◃ rising-below j r (omega arith) (omega arith)
 
+-- the targets above j rise where there is room above it
 pub rising-above : {lo u m : ℕ} (j : ℕ) {qs : List ℕ} → Rising u m qs → lo ≤ max u (suc j) → j + length qs < m → Rising lo m (above j qs)
 unfolding above
 rising-above j (rest h) k f = end (omega arith)
 rising-above j (rise h r) k f = omega arith ◃ rising-above (suc j) r (omega arith) (omega arith)
 
+-- there is a target for each robot below
 pub length-below : (j : ℕ) (ps : List ℕ) → length (below j ps) ≡ length ps
 unfolding below
 length-below j [] = refl
 length-below j (p ∷ ps) = ap suc (length-below j ps)
 
+-- and for each robot above
 pub length-above : (j : ℕ) (qs : List ℕ) → length (above j qs) ≡ length qs
 unfolding above
 length-above j [] = refl
@@ -34,10 +38,12 @@ pub record Fits (m j t u : ℕ) : Type 0 where
   pub under : t ≤ j
   pub over : j + u < m
 
+-- the test says that there is room
 pub fits : (m j t u : ℕ) → T (room m j t u) → Fits m j t u
 unfolding room
 fits m j t u h = record { under = leb→le t j (and-left (leb t j) (ltb (j + u) m) h); over = ltb→lt (j + u) m (and-right (leb t j) (ltb (j + u) m) h) }
 
+-- and where there is room it holds
 pub has-room : (m j t u : ℕ) → t ≤ j → j + u < m → T (room m j t u)
 unfolding room
 has-room m j t u h k = and-both (leb t j) (ltb (j + u) m) (le→leb t j h) (lt→ltb (j + u) m k)

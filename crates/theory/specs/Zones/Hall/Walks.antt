@@ -20,6 +20,7 @@ use Rattle.theory.specs.Zones.Hall.Places.{Rising, rest, rise, end, _◃
 Empty : ℕ → ℕ → Arrangement → Type 0
 Empty lo hi a = (i : ℕ) → lo ≤ i → i ≤ hi → cell a i ≡ 0
 
+-- a robot goes down over empty places, n of them
 run-down : {kind : ℕ} (c n q : ℕ) (a : Arrangement) → Empty q (n + q) a → n + q < length a → Runs kind (down c n q) (set a (n + q) (suc c)) (set a q (suc c))
 unfolding down Empty
 run-down c zero q a e h = rw zero-add done
@@ -27,6 +28,7 @@ run-down c (suc n) q a e h = rw suc-add (step c (suc (n + q)) (n + q) a (down c 
     (e (suc (n + q)) (omega arith) (omega arith)) (e (n + q) (omega arith) (omega arith)) (omega arith) (omega arith)
     (run-down c n q a (λ i h k. e i h (omega arith)) (omega arith)))
 
+-- a robot goes up over empty places, n of them
 run-up : {kind : ℕ} (c n p : ℕ) (a : Arrangement) → Empty p (n + p) a → n + p < length a → Runs kind (up c n p) (set a p (suc c)) (set a (n + p) (suc c))
 unfolding up Empty
 run-up c zero p a e h = rw zero-add done
@@ -52,6 +54,7 @@ walk-down {kind} c p q a e k = go (decLe q p)
         let m : min p q ≡ p = omega arith in
         rw (s, m) done
 
+-- the same upward
 walk-up : {kind : ℕ} (c p q : ℕ) (a : Arrangement) → Empty (min p q) q a → q < length a → Runs kind (up c (q - p) p) (set a (min p q) (suc c)) (set a q (suc c))
 unfolding Empty up
 walk-up {kind} c p q a e k = go (decLe p q)
@@ -72,11 +75,13 @@ walk-up {kind} c p q a e k = go (decLe p q)
 abbrev AtLeast : ℕ → Move → Type 0
 AtLeast lo m = (lo ≤ m .from) × (lo ≤ m .to)
 
+-- the moves down to q name no place below q
 down-least : (c n q : ℕ) → Each (AtLeast q) (down c n q)
 unfolding down
 down-least c zero q = none
 down-least c (suc n) q = omega arith & down-least c n q
 
+-- the moves up from p name no place below p
 up-least : (c n p lo : ℕ) → lo ≤ p → Each (AtLeast lo) (up c n p)
 unfolding up
 up-least c zero p lo h = none
@@ -86,10 +91,12 @@ up-least c (suc n) p lo h = omega arith & up-least c n (suc p) lo (omega arith)
 abbrev low : Trip → ℕ
 low t = min (t .from) (t .to)
 
+-- the lower places of the trips rise
 rising-low : {lo u v hi : ℕ} (ts : List Trip) → lo ≤ u → lo ≤ v → Rising u hi (map (λ t. t .from) ts) → Rising v hi (map (λ t. t .to) ts) → Rising lo hi (map low ts)
 rising-low [] h k (rest r) (rest s) = end (omega arith)
 rising-low (t ∷ ts) h k (rise r rs) (rise s ss) = omega arith ◃ rising-low ts (omega arith) (omega arith) rs ss
 
+-- moves above a place do not touch it
 apart : {p : ℕ} {ms : List Move} → Each (AtLeast (suc p)) ms → Each (Apart p) ms
 apart h = each-map (λ m k. omega arith) h
 
@@ -98,16 +105,19 @@ abbrev pub standing : ℕ → (Trip → ℕ) → List Trip → Arrangement
 standing m f ts = cells m (map (λ t. t .robot) ts) (map f ts)
 
 module _ {m : ℕ} where
+  -- the moves of the lowering pass name no place below the lowest
   lowering-least : {lo : ℕ} (ts : List Trip) → Rising lo m (map low ts) → Each (AtLeast lo) (lowering ts)
   unfolding lowering
   lowering-least [] r = none
   lowering-least (t ∷ ts) (rise r rs) = each-append (each-map (λ m h. omega arith) (down-least (t .robot) (t .from - t .to) (t .to))) (lowering-least ts (rising-from (omega arith) rs))
 
+  -- nor do those of the raising pass
   raising-least : {lo : ℕ} (ts : List Trip) → Rising lo m (map low ts) → Each (AtLeast lo) (raising ts)
   unfolding raising
   raising-least [] r = none
   raising-least (t ∷ ts) (rise r rs) = each-append (raising-least ts (rising-from (omega arith) rs)) (up-least (t .robot) (t .to - t .from) (t .from) _ (omega arith))
 
+  -- the lowering pass takes every robot to the lower of its place and its target
   run-lowering : {kind : ℕ} {u v : ℕ} (ts : List Trip) → Rising u m (map (λ t. t .from) ts) → Rising v m (map (λ t. t .to) ts) → Runs kind (lowering ts) (standing m (λ t. t .from) ts) (standing m low ts)
   unfolding lowering cells Empty
   run-lowering [] r s = done
@@ -117,6 +127,7 @@ module _ {m : ℕ} where
       (walk-down (t .robot) (t .from) (t .to) (standing m (λ t. t .from) ts) (λ i l u. rising-empty m cs rs i (omega arith)) (omega (arith, length-cells m cs (map (λ t. t .from) ts), rising-top rs)))
       (frame (suc (t .robot)) (apart (lowering-least ts (rising-low ts (omega arith) (omega arith) rs ss))) (run-lowering ts rs ss))
 
+  -- the raising pass takes every robot from there to its target
   run-raising : {kind : ℕ} {u v : ℕ} (ts : List Trip) → Rising u m (map low ts) → Rising v m (map (λ t. t .to) ts) → Runs kind (raising ts) (standing m low ts) (standing m (λ t. t .to) ts)
   unfolding raising cells Empty
   run-raising [] r s = done
@@ -136,9 +147,11 @@ module _ {m : ℕ} where
 
 -- the robots, the places and the targets of the trips are the lists that they were made of
 module _ {A : Type 0} where
+  -- three lists of one length
   Even : List A → List A → List A → Type 0
   Even cs ps qs = (length ps ≡ length cs) × (length qs ≡ length cs)
 
+-- the robots
 trips-robots : (cs ps qs : List ℕ) → Even cs ps qs → map (λ t. t .robot) (trips cs ps qs) ≡ cs
 unfolding trips Even
 trips-robots [] ps qs h = refl
@@ -146,6 +159,7 @@ trips-robots (c ∷ cs) [] qs h = absurd (omega arith)
 trips-robots (c ∷ cs) (p ∷ ps) [] h = absurd (omega arith)
 trips-robots (c ∷ cs) (p ∷ ps) (q ∷ qs) h = ap (λ r. c ∷ r) (trips-robots cs ps qs (omega arith))
 
+-- the places
 trips-from : (cs ps qs : List ℕ) → Even cs ps qs → map (λ t. t .from) (trips cs ps qs) ≡ ps
 unfolding trips Even
 trips-from [] [] qs h = refl
@@ -154,6 +168,7 @@ trips-from (c ∷ cs) [] qs h = refl
 trips-from (c ∷ cs) (p ∷ ps) [] h = absurd (omega arith)
 trips-from (c ∷ cs) (p ∷ ps) (q ∷ qs) h = ap (λ r. p ∷ r) (trips-from cs ps qs (omega arith))
 
+-- the targets
 trips-to : (cs ps qs : List ℕ) → Even cs ps qs → map (λ t. t .to) (trips cs ps qs) ≡ qs
 unfolding trips Even
 trips-to [] ps [] h = refl

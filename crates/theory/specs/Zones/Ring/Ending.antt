@@ -26,10 +26,12 @@ use Rattle.theory.specs.Zones.Ring.Push.{push-to, push-none}
 
 -- ---- the lowest-numbered robot
 
+-- what the search for the lowest-numbered robot finds: none where there are none, or one of them
 data Lowest (xs : List ℕ) : ℕ → Type 0 where
   nobody : xs ≡ [] → Lowest xs 0
   low : (r : ℕ) → T (member r xs) → Lowest xs (suc r)
 
+-- the search finds so
 lowest-view : (xs : List ℕ) → Lowest xs (lowest xs)
 unfolding lowest lesser
 lowest-view [] = nobody refl
@@ -45,6 +47,7 @@ lowest-view (r ∷ rs) = go (lowest-view rs)
 
 -- ---- the moves and the test
 
+-- two arrangements of one length without robots are equal
 all-empty : (a g : Arrangement) → length a ≡ length g → order a ≡ [] → order g ≡ [] → a ≡ g
 unfolding order
 all-empty [] [] l e f = refl
@@ -55,6 +58,7 @@ all-empty (zero ∷ a) (suc y ∷ g) l e f = absurd (omega (arith, ap length f))
 all-empty (suc x ∷ a) (y ∷ g) l e f = absurd (omega (arith, ap length e))
 
 module _ (a g : Arrangement) (d : Distinct a) (l : length a ≡ length g) (t : Turned (order a) (order g)) (f : (length (order a) < length a) ⊎ (a ≡ g)) where
+  -- pushing any robot to its goal and bringing the others there as in a hall ends in the goal
   end-at : (r : ℕ) → T (member r (order a)) → Runs 4 (ringEndAt a g r) a g
   unfolding ringEndAt
   end-at r h = go (member→cell a r h)
@@ -79,6 +83,7 @@ module _ (a g : Arrangement) (d : Distinct a) (l : length a ≡ length g) (t : T
           let o = sym (round-same a (s .0) p j r d e (s .2) (runs-turned (s .1))) ∙ round-same a g p j r d e here t in
           runs-append (s .1) (rw (runs-applied (s .1), m) (rest-runs (s .0) g j (cell-inside (s .0) j r (s .2)) (sym m ∙ l) (s .2 ∙ sym here) o))
 
+  -- the written moves end in the goal
   pub ring-goes : Runs 4 (ringEnd a g) a g
   unfolding ringEnd
   ring-goes = go (lowest-view (order a)) (eqb? (lowest (order a)) 0)
@@ -127,6 +132,7 @@ behind-same xs ys o n k t e = go (ended xs) (ended ys) o n k t e
         rw (f, y)
 
 module _ (a b : Arrangement) (j r : ℕ) (d : Distinct a) (s : Reachable 4 a b) where
+  -- two arrangements with the same order behind place j, and the same at j, are in one configuration
   ring-set : (x : ℕ) → j < length a → order (opened j a) ≡ order (opened j b) → Reachable 4 (set a j x) (set b j x)
   ring-set x h o =
       let m = runs-length (s .1) in (

@@ -27,11 +27,13 @@ use Rattle.theory.specs.Zones.Ring.Pushes.{Lower, lower, push-off, Trail
 
 -- ---- the loop
 
+-- nothing moves where place j is empty and the named robot behind it
 turn-stays : (f : ℕ) (a : Arrangement) (j n : ℕ) → cell a j ≡ 0 → ringBehind a j ≡ n → turnFor f a j n ≡ []
 unfolding turnFor entryOpen
 turn-stays zero a j n e k = refl
 turn-stays (suc f) a j n e k = if-true (eqb (cell a j) 0 && eqb (ringBehind a j) n) [] _ (and-both (eqb (cell a j) 0) (eqb (ringBehind a j) n) (eq→eqb (cell a j) 0 e) (eq→eqb (ringBehind a j) n k))
 
+-- otherwise the robot on j is pushed, or if j is empty the first behind it
 turn-steps : (f : ℕ) (a b : Arrangement) (j n p : ℕ) → ((cell a j ≡ suc (cell a j - 1)) × (p ≡ j)) ⊎ ((cell a j ≡ 0) × (ringBehind a j ≢ n) × (seek (suc (ringBehind a j)) a ≡ p))
     → applyAll a (push a p) ≡ b → turnFor (suc f) a j n ≡ push a p ++ turnFor f b j n
 unfolding turnFor entryOpen turnPlace _&&_
@@ -54,6 +56,7 @@ turn-steps f a b j n p w t = go (eqb? (cell a j) 0) (eqb? (ringBehind a j) n) w 
 Turns : ℕ → ℕ → ℕ → Arrangement → Type 0
 Turns f j n a = (b : Arrangement) × Runs 4 (turnFor f a j n) a b × (cell b j ≡ 0) × (ringBehind b j ≡ n)
 
+-- the loop ends as it should if as many turns are allowed as the measure says
 turn-loop : (f j n : ℕ) (a : Arrangement) → j < length a → Distinct a → Named a → length (order a) < length a → Early n (turn (suc j) a) → after n (turn (suc j) a) ≤ f → Turns f j n a
 unfolding Turns
 turn-loop zero j n a h d nm g E m = go (lower j n a h d g nm E)
@@ -88,6 +91,7 @@ turn-first (suc f) j n a h d nm g e m = go (push-off j n a h g e)
 
 -- ---- the moves and the test
 
+-- where there are no robots none is named
 nobody-there : (a : Arrangement) → length (order a) ≡ 0 → lastNamed a ≡ 255
 unfolding lastNamed order
 nobody-there [] h = refl

@@ -21,19 +21,23 @@ use Rattle.theory.specs.Zones.Ring.Order.{Round, line, over, under, roun
 
 -- ---- one place back: the ring read from the next place on
 
+-- a place, counted from the next place on
 back : ℕ → ℕ → ℕ
 back m zero = m - 1
 back m (suc i) = i
 
+-- a move, so counted
 backed : ℕ → Move → Move
 backed m v = record { robot = v .robot; from = back m (v .from); to = back m (v .to) }
 
+-- what stands there
 cell-back : (a : Arrangement) (i : ℕ) → i < length a → cell (turn1 a) (back (length a) i) ≡ cell a i
 unfolding turn1 back
 cell-back [] i h = absurd (omega arith)
 cell-back (x ∷ a) zero h = let e : suc (length a) - 1 ≡ length a = omega arith in rw e (getD-append-seam a x [] 0)
 cell-back (x ∷ a) (suc i) h = List·getD-append a (x ∷ []) 0 i (omega arith)
 
+-- what is put there
 set-back : (a : Arrangement) (i v : ℕ) → i < length a → set (turn1 a) (back (length a) i) v ≡ turn1 (set a i v)
 unfolding turn1 back
 set-back [] i v h = absurd (omega arith)
@@ -44,15 +48,19 @@ set-back (x ∷ a) (suc i) v h = set-append-left a (x ∷ []) i v (omega arith)
 on : {m p q : ℕ} → q ≡ suc p → Round m p q
 on j = line (inl j)
 
+-- a step back
 off : {m p q : ℕ} → p ≡ suc q → Round m p q
 off j = line (inr j)
 
+-- over the end of the list
 over! : {m p q : ℕ} → suc p ≡ m → q ≡ 0 → Round m p q
 over! i j = over i j
 
+-- under the start of the list
 under! : {m p q : ℕ} → p ≡ 0 → suc q ≡ m → Round m p q
 under! i j = under i j
 
+-- places side by side stay so
 round-back : (m p q : ℕ) → p < m → q < m → Round m p q → Round m (back m p) (back m q)
 unfolding back
 round-back m zero zero h k (line (inl j)) = absurd (omega arith)
@@ -72,11 +80,13 @@ round-back m (suc p) (suc q) h k (line (inr j)) = off (omega arith)
 round-back m (suc p) (suc q) h k (over i j) = absurd (omega arith)
 round-back m (suc p) (suc q) h k (under i j) = absurd (omega arith)
 
+-- a place so counted is a place
 back-lt : (m i : ℕ) → i < m → back m i < m
 unfolding back
 back-lt m zero h = omega arith
 back-lt m (suc i) h = omega arith
 
+-- a run of the ring, read from the next place on
 runs-turn1 : {m : ℕ} {ms : List Move} {a b : Arrangement} → length a ≡ m → Runs 4 ms a b → Runs 4 (map (backed m) ms) (turn1 a) (turn1 b)
 unfolding backed
 runs-turn1 h done = done
@@ -93,14 +103,17 @@ runs-turn1 {m} h (_then_ {x = v} {a = a} l r) =
 
 -- ---- a run of a frame is a run of the ring
 
+-- a place below m is itself
 pub wrap-lt : {m i : ℕ} → i < m → wrap m i ≡ i
 unfolding wrap
 wrap-lt {m} {i} h = if-true (ltb i m) i (i - m) (lib.Dec.lt→ltb i m h)
 
+-- one from m on is counted round
 pub wrap-ge : {m i : ℕ} → m ≤ i → wrap m i ≡ i - m
 unfolding wrap
 wrap-ge {m} {i} h = if-false (ltb i m) i (i - m) (lib.Dec.not-T (ltb i m) (λ t. omega (arith, lib.Dec.ltb→lt i m t)))
 
+-- a number below 2 * m is counted to a place
 pub wrap-under : (m i : ℕ) → i < m + m → wrap m i < m
 wrap-under m i h = go (decLt i m)
   where
@@ -108,6 +121,7 @@ wrap-under m i h = go (decLt i m)
     go (yes k) = rw (wrap-lt k) k
     go (no k) = let f : m ≤ i = omega arith in rw (wrap-ge f) (omega arith)
 
+-- turning by a number that is counted round is turning by it
 pub turn-wrap : (m k : ℕ) (a : Arrangement) → length a ≡ m → turn (wrap m k) a ≡ turn k a
 turn-wrap m k a l = go (decLt k m)
   where
@@ -118,6 +132,7 @@ turn-wrap m k a l = go (decLt k m)
         let e : length a + (k - m) ≡ k = omega arith in
         ap (λ i. turn i a) (wrap-ge f) ∙ ap (turn (k - m)) (sym (turn-round a)) ∙ sym (turn-add (length a) (k - m) a) ∙ ap (λ i. turn i a) e
 
+-- a place of the frame at the next place is a place of the frame at this one
 wrap-back : (m p i : ℕ) → p < m → i < m → wrap m (suc p + back m i) ≡ wrap m (p + i)
 unfolding back
 wrap-back m p zero h k =
@@ -130,19 +145,23 @@ wrap-back m p (suc i) h k = ap (wrap m) (omega arith)
 abbrev pub Within : ℕ → Move → Type 0
 Within m v = (v .from < m) × (v .to < m)
 
+-- a run's moves are so
 pub within : {m kind : ℕ} {ms : List Move} {a b : Arrangement} → length a ≡ m → Runs kind ms a b → Each (Within m) ms
 within h done = none
 within h (_then_ {x = v} {a = a} l r) =
     omega (arith, cell-inside a (v .from) (v .robot) (l .there), l .within) & within (length-apply l ∙ h) r
 
+-- functions that agree on a list's elements map it alike
 map-same : {A B : Type 0} {P : A → Type 0} {f g : A → B} {xs : List A} → ((x : A) → P x → f x ≡ g x) → Each P xs → map f xs ≡ map g xs
 map-same e none = refl
 map-same {B} {g} e (_&&&_ {x} {xs} h hs) = ap₂ {C = List B} (λ y ys. y ∷ ys) (e x h) (map-same e hs)
 
+-- a move of the frame at the next place is one of the frame at this place
 from-back : (m p : ℕ) → p < m → (v : Move) → Within m v → inRing m (suc p) (backed m v) ≡ inRing m p v
 unfolding inRing backed
 from-back m p h v w = λ i. record { robot = v .robot; from = wrap-back m p (v .from) h (w .0) i; to = wrap-back m p (v .to) h (w .1) i }
 
+-- a move of the frame at a whole turn is itself
 from-all : (m : ℕ) (v : Move) → Within m v → inRing m m v ≡ v
 unfolding inRing
 from-all m v w = λ i. record { robot = v .robot; from = full (v .from) (w .0) i; to = full (v .to) (w .1) i }
@@ -150,6 +169,7 @@ from-all m v w = λ i. record { robot = v .robot; from = full (v .from) (w .0) i
     full : (j : ℕ) → j < m → wrap m (m + j) ≡ j
     full j h = let e : m ≤ m + j = omega arith in wrap-ge e ∙ omega arith
 
+-- a function that keeps a list's elements maps it to itself
 map-is : {A : Type 0} {P : A → Type 0} {f : A → A} {xs : List A} → ((x : A) → P x → f x ≡ x) → Each P xs → map f xs ≡ xs
 map-is e none = refl
 map-is {A} e (_&&&_ {x} {xs} h hs) = ap₂ {C = List A} (λ y ys. y ∷ ys) (e x h) (map-is e hs)
@@ -166,22 +186,27 @@ runs-from (suc k) p {m} {ms} {a} e h r =
 
 -- ---- a run of a hall, with something before it or behind it, is a run of a ring
 
+-- halls are of kind 2
 pub is-hall : IsHall 2
 is-hall = record { three = λ e. omega arith; four = λ e. omega arith }
 
+-- a move one place on
 unfoldable pub along : Move → Move
 along v = mv (v .robot) (suc (v .from)) (suc (v .to))
 
+-- places one on are side by side if these are
 up : {p q : ℕ} → Next p q → Next (suc p) (suc q)
 up (inl j) = inl (ap suc j)
 up (inr j) = inr (ap suc j)
 
+-- a run of a hall with one place put before it
 pub runs-along : {ms : List Move} {a b : Arrangement} (x : ℕ) → Runs 2 ms a b → Runs 2 (map along ms) (x ∷ a) (x ∷ b)
 unfolding along
 runs-along x done = done
 runs-along x (_then_ {x = v} {a = a} l r) =
     next record { near = in-line 2 (suc (length a)) (up (out-line is-hall (length a) (v .from) (v .to) (l .near))); there = l .there; free = l .free; within = omega (arith, l .within) } refl (runs-along x r)
 
+-- a run of a hall with places put behind it
 pub runs-before : {ms : List Move} {a b : Arrangement} (z : Arrangement) → Runs 2 ms a b → Runs 2 ms (a ++ z) (b ++ z)
 runs-before z done = done
 runs-before z (_then_ {x = v} {a = a} l r) =
@@ -194,6 +219,7 @@ runs-before z (_then_ {x = v} {a = a} l r) =
     } (ap (λ b. set b (v .to) (suc (v .robot))) (set-append-left a z (v .from) 0 i)
     ∙ set-append-left (set a (v .from) 0) z (v .to) (suc (v .robot)) (lib.Seq.lt-length-set a (v .from) 0 (l .within))) (runs-before z r)
 
+-- a run of a hall is a run of a ring
 pub in-ring : {ms : List Move} {a b : Arrangement} → Runs 2 ms a b → Runs 4 ms a b
 in-ring done = done
 in-ring (_then_ {x = v} {a = a} l r) =

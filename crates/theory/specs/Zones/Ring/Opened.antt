@@ -19,21 +19,24 @@ use Rattle.theory.specs.Zones.Hall.Walks.{run-hallEnd}
 use Rattle.theory.specs.Zones.Ring.Turning.{turn-split, turn, turn1, length-turn, turn-back, Anchor, anchor-turned, Turned}
 use Rattle.theory.specs.Zones.Ring.Frames.{runs-before, in-ring, runs-from}
 
--- the place j, then the others; and the others, then the place j
+-- the ring read from place j on: j, then the others
 pub turn-at : (j : ℕ) (a : Arrangement) → j < length a → turn j a ≡ cell a j ∷ opened j a
 unfolding opened
 turn-at j a h = turn-split j a (omega arith) ∙ ap (λ l. l ++ take j a) (drop-cons a j 0 h)
 
+-- the others, then the place j
 pub turn-past : (j : ℕ) (a : Arrangement) → j < length a → turn (suc j) a ≡ opened j a ++ cell a j ∷ []
 unfolding opened
 turn-past j a h = turn-split (suc j) a h ∙ ap (λ l. drop (suc j) a ++ l) (take-suc a j 0 h) ∙ sym (append-assoc (drop (suc j) a) (take j a) (cell a j ∷ []))
 
+-- a turn by one keeps how many robots there are
 pub count-turn1 : (a : Arrangement) → length (order (turn1 a)) ≡ length (order a)
 unfolding turn1 order
 count-turn1 [] = refl
 count-turn1 (zero ∷ a) = rw (order-append a (0 ∷ []), append-nil)
 count-turn1 (suc c ∷ a) = rw (order-append a (suc c ∷ []), length-append (order a) (c ∷ [])) (omega arith)
 
+-- so does any turn
 pub count-turn : (k : ℕ) (a : Arrangement) → length (order (turn k a)) ≡ length (order a)
 unfolding turn
 count-turn zero a = refl
@@ -43,9 +46,11 @@ count-turn (suc k) a = count-turn k (turn1 a) ∙ count-turn1 a
 pub count-opened : (j : ℕ) (a : Arrangement) (x : ℕ) → j < length a → cell a j ≡ x → length (order (x ∷ opened j a)) ≡ length (order a)
 count-opened j a x h e = ap (λ l. length (order l)) (sym (turn-at j a h ∙ ap (λ c. c ∷ opened j a) e)) ∙ count-turn j a
 
+-- the places but j are one fewer
 pub length-opened : (j : ℕ) (a : Arrangement) → j < length a → suc (length (opened j a)) ≡ length a
 length-opened j a h = sym (ap length (turn-at j a h)) ∙ length-turn j a
 
+-- the order of the others goes on from j round to it
 pub order-opened : (j : ℕ) (a : Arrangement) → order (opened j a) ≡ order (drop (suc j) a) ++ order (take j a)
 unfolding opened
 order-opened j a = order-append (drop (suc j) a) (take j a)
@@ -72,6 +77,7 @@ opened-cell j a i n e k = go (decLt i j)
         let q : suc j + (i - suc j) ≡ i = omega arith in
         (i - suc j, List·getD-append (drop (suc j) a) (take j a) 0 (i - suc j) (omega (arith, length-drop (suc j) a, cell-inside a i n e)) ∙ getD-drop (suc j) a (i - suc j) 0 ∙ ap (cell a) q ∙ e)
 
+-- whoever stands among the others stands in the ring
 pub cell-opened : (j : ℕ) (a : Arrangement) (k x : ℕ) → cell (opened j a) k ≡ suc x → (i : ℕ) × (cell a i ≡ suc x)
 unfolding opened
 cell-opened j a k x e = go (decLt k (length (drop (suc j) a)))

@@ -25,6 +25,7 @@ pub data Round (m : ℕ) : ℕ → ℕ → Type 0 where
   over : {p q : ℕ} → suc p ≡ m → q ≡ 0 → Round m p q
   under : {p q : ℕ} → p ≡ 0 → suc q ≡ m → Round m p q
 
+-- joined places are so
 pub round-near : (m p q : ℕ) → T (joinedPlaces 4 m p q) → Round m p q
 unfolding linked _&&_ _||_
 round-near m p q h = go (ltb? p q) (ltb? q p) h
@@ -46,6 +47,7 @@ round-near m p q h = go (ltb? p q) (ltb? q p) h
     go (more i) (less k) h = fall (up q p (eqb? p (q + 1)) h)
     go (more i) (more k) h = absurd h
 
+-- the two ends are joined
 ends-joined : (m q : ℕ) → 0 < q → suc q ≡ m → T (joinedPlaces 4 m 0 q)
 unfolding linked _||_ _&&_
 ends-joined m q h e = go (ltb? 0 q) (eqb? q (0 + 1)) (eqb? (q + 1) m)
@@ -68,6 +70,7 @@ go-round {p} {q} {a} l j e f h = record { near = rw l (near-round (λ z. omega (
 
 -- ---- a move keeps the order round
 
+-- clearing the last place leaves the order of the others
 order-last-clear : (a : Arrangement) (p : ℕ) → suc p ≡ length a → order (set a p 0) ≡ order (take p a)
 unfolding order
 order-last-clear [] p e = absurd (omega arith)
@@ -76,6 +79,7 @@ order-last-clear (x ∷ y ∷ a) zero e = absurd (omega arith)
 order-last-clear (zero ∷ a) (suc p) e = order-last-clear a p (omega arith)
 order-last-clear (suc d ∷ a) (suc p) e = ap (λ r. d ∷ r) (order-last-clear a p (omega arith))
 
+-- a robot put on the last place is the last of the order
 order-last-put : (a : Arrangement) (p c : ℕ) → suc p ≡ length a → cell a p ≡ 0 → order (set a p (suc c)) ≡ order a ++ c ∷ []
 unfolding order
 order-last-put [] p c e f = absurd (omega arith)
@@ -84,7 +88,7 @@ order-last-put (x ∷ y ∷ a) zero c e f = absurd (omega arith)
 order-last-put (zero ∷ a) (suc p) c e f = order-last-put a p c (omega arith) f
 order-last-put (suc d ∷ a) (suc p) c e f = ap (λ r. d ∷ r) (order-last-put a p c (omega arith) f)
 
--- the last robot comes round to the front, and the first goes round to the end
+-- the last robot comes round to the front
 keeps-over : (a : Arrangement) (p c : ℕ) → suc p ≡ length a → cell a p ≡ suc c → cell a 0 ≡ 0 → Turned (order a) (order (set (set a p 0) 0 (suc c)))
 unfolding order
 keeps-over [] p c l e f = absurd (omega arith)
@@ -95,6 +99,7 @@ keeps-over (zero ∷ a) (suc p) c l e f =
     let o : order a ≡ xs ++ c ∷ [] = order-at a p c e ∙ rw (drop-of-length-le a {i = suc p} (omega arith)) in
     record { by = length xs; is = rw (o, turn-append xs (c ∷ []), order-last-clear a p (omega arith)) }
 
+-- the first robot goes round to the end
 keeps-under : (a : Arrangement) (q c : ℕ) → suc q ≡ length a → cell a 0 ≡ suc c → cell a q ≡ 0 → Turned (order a) (order (set (set a 0 0) q (suc c)))
 unfolding order turn turn1
 keeps-under [] q c l e f = absurd (omega arith)

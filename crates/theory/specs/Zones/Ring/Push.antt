@@ -23,11 +23,13 @@ pushed [] = []
 pushed (zero ∷ a) = a ++ 0 ∷ []
 pushed (suc c ∷ a) = suc c ∷ pushed a
 
+-- moving on from the next place is moving on from this one, one place on
 shove-along : (k : ℕ) (cs : List ℕ) → shove (suc k) cs ≡ map along (shove k cs)
 unfolding shove along
 shove-along k [] = refl
 shove-along k (c ∷ cs) = rw (shove-along (suc k) cs) (sym (map-append along (shove (suc k) cs) (mv c k (suc k) ∷ [])))
 
+-- the robots side by side from the first place on move one place on, the foremost first
 push-runs : (a : Arrangement) → length (order a) < length a → (w : Arrangement) × Runs 2 (shove 0 (run a)) a (0 ∷ w) × (turn1 (0 ∷ w) ≡ pushed a)
 unfolding order run shove pushed turn1
 push-runs [] h = absurd (omega arith)
@@ -40,6 +42,7 @@ push-runs (suc c ∷ a) h = go (push-runs a (omega arith))
         let l : Inside 2 (mv c 0 1) (suc c ∷ 0 ∷ w) = record { near = in-line 2 (suc (suc (length w))) {p = 0} {q = 1} (inl refl); there = refl; free = refl; within = omega arith } in
         (suc c ∷ w, rw (shove-along 0 (run a)) (runs-append (runs-along (suc c) r) (next l refl done)), ap (λ r. suc c ∷ r) e)
 
+-- a whole turn and one more is a turn by one
 turn-full : (m : ℕ) (a : Arrangement) → length a ≡ m → turn (suc m) a ≡ turn1 a
 unfolding turn
 turn-full m a l = let e : m ≡ length (turn1 a) = sym (length-turn1 a ∙ l) in rw e (turn-round (turn1 a))
@@ -60,6 +63,7 @@ push-at a p h f = go (push-runs (turn p a) (omega (arith, count-turn p a, length
           sym (turn-add (length a - p) (suc p) (0 ∷ w)) ∙ ap (λ k. turn k (0 ∷ w)) n ∙ turn-full (length a) (0 ∷ w) l ∙ e,
         )
 
+-- the pushed robot stands first in the next frame
 pushed-head : (c : ℕ) (a : Arrangement) → cell a 0 ≡ suc c → cell (pushed a) 0 ≡ suc c
 unfolding pushed
 pushed-head c [] e = e
@@ -79,6 +83,7 @@ pushed-to a b p r e l t =
 Away : ℕ → ℕ → ℕ → ℕ → Type 0
 Away m p j n = (p + n ≡ j) ⊎ (p + n ≡ m + j)
 
+-- one place on it is one place nearer
 away-next : (m p j n : ℕ) → p < m → j < m → Away m p j (suc n) → Away m (wrap m (suc p)) j n
 unfolding Away
 away-next m p j n h k w = go (decLt (suc p) m) w
@@ -89,6 +94,7 @@ away-next m p j n h k w = go (decLt (suc p) m) w
     go (no l) (inl e) = absurd (omega arith)
     go (no l) (inr e) = let f : m ≤ suc p = omega arith in rw (wrap-ge f) (inl (omega arith))
 
+-- as far as the rule says
 away-ahead : (m p j : ℕ) → p < m → j < m → Away m p j (ahead m p j)
 unfolding Away ahead
 away-ahead m p j h k = go (decLe p j)
@@ -97,11 +103,13 @@ away-ahead m p j h k = go (decLe p j)
     go (yes l) = let f : m ≤ m + j - p = omega arith in rw (wrap-ge f) (inl (omega arith))
     go (no l) = let f : m + j - p < m = omega arith in rw (wrap-lt f) (inr (omega arith))
 
+-- nothing further on is here
 away-none : (a : Arrangement) (r j p : ℕ) → cell a p ≡ suc r → Away (length a) p j 0 → cell a j ≡ suc r
 unfolding Away
 away-none a r j p e (inl z) = let y : p ≡ j = omega arith in rw y at e
 away-none a r j p e (inr z) = absurd (omega (arith, cell-inside a p r e))
 
+-- n pushes take a robot n places on
 push-on : (n : ℕ) (a : Arrangement) (r j p : ℕ) → length (order a) < length a → j < length a → cell a p ≡ suc r → Away (length a) p j n
     → (b : Arrangement) × Runs 4 (pushes n a p) a b × (cell b j ≡ suc r)
 unfolding pushes

@@ -28,11 +28,13 @@ pub data Trail (w : Arrangement) : Type 0 where
   bare : (k : ℕ) → w ≡ replicate k 0 → Trail w
   trail : (u : Arrangement) (x k : ℕ) → x ≢ 255 → w ≡ u ++ suc x ∷ replicate k 0 → lastNamed w ≡ x → Trail w
 
+-- empty places name nobody
 last-none : (k : ℕ) → lastNamed (replicate k 0) ≡ 255
 unfolding lastNamed
 last-none zero = refl
 last-none (suc k) = last-none k
 
+-- which of the two a list is can be told, where no robot is 255
 pub trail-view : (w : Arrangement) → Each (λ y. 255 ≢ y) (order w) → Trail w
 unfolding lastNamed order
 trail-view [] n = bare 0 refl
@@ -63,15 +65,19 @@ push-off j x a h f e =
 -- the first robot behind place j is pushed
 module _ (j : ℕ) (a : Arrangement) (h : j < length a) (d : Distinct a) (g : length (order a) < length a) (e : cell a j ≡ 0)
     (u : Arrangement) (x k : ℕ) (w : opened j a ≡ u ++ suc x ∷ replicate k 0) where
+  -- the ring read from the place after j on
   seen : turn (suc j) a ≡ u ++ suc x ∷ 0 ∷ replicate k 0
   seen = turn-past j a h ∙ rw (e, w) (append-assoc u (suc x ∷ replicate k 0) (0 ∷ []) ∙ ap (λ l. u ++ suc x ∷ l) (sym (empty-snoc k []) ∙ append-nil (replicate (suc k) 0)))
 
+  -- how many places it has
   long : length a ≡ length u + suc (suc k)
   long = sym (length-turn (suc j) a) ∙ ap length seen ∙ length-append u (suc x ∷ 0 ∷ replicate k 0) ∙ omega (arith, length-replicate {A = ℕ} k 0)
 
+  -- the place of the robot behind j
   spot : ℕ
   spot = wrap (length a) (suc j + length u)
 
+  -- it is a place
   spot-in : spot < length a
   unfolding spot
   spot-in = wrap-under (length a) (suc j + length u) (omega (arith, long))
@@ -81,11 +87,13 @@ module _ (j : ℕ) (a : Arrangement) (h : j < length a) (d : Distinct a) (g : le
   unfolding spot
   ahead = turn-wrap (length a) (suc j + length u) a refl ∙ turn-add (suc j) (length u) a ∙ ap (turn (length u)) seen ∙ turn-append u (suc x ∷ 0 ∷ replicate k 0)
 
+  -- seeking finds it
   spot-is : seek (suc x) a ≡ spot
   spot-is =
       let z : cell a spot ≡ suc x = sym (turn-head spot a spot-in) ∙ ap (λ l. cell l 0) ahead in
       d (seek (suc x) a) spot x (seek-robot x a spot z) z
 
+  -- pushing it takes it one place on
   push-behind : (b : Arrangement) × Runs 4 (push a spot) a b × (turn (suc j) b ≡ u ++ 0 ∷ suc x ∷ replicate k 0)
   unfolding pushed spot
   push-behind = go (push-at a spot spot-in g)
@@ -128,9 +136,11 @@ pub record Lower (j n : ℕ) (a : Arrangement) : Type 0 where
   pub fewer : after n (turn (suc j) to) < after n (turn (suc j) a)
 
 module _ (j n : ℕ) (a : Arrangement) (h : j < length a) (d : Distinct a) (g : length (order a) < length a) where
+  -- the robot on j is none of the others
   others : (x : ℕ) → cell a j ≡ suc x → Each (λ y. x ≢ y) (order (opened j a))
   others x e = rw (order-opened j a) (each-append (not-over a d j x e) (not-under a d j x e))
 
+  -- where j is taken, pushing the robot on it lowers the measure
   lower-on : (x : ℕ) → cell a j ≡ suc x → Early n (turn (suc j) a) → Lower j n a
   lower-on x e E = go (push-off j x a h g e)
     where
@@ -156,6 +166,7 @@ module _ (j n : ℕ) (a : Arrangement) (h : j < length a) (d : Distinct a) (g : 
         fewer = rw (t, seen′, after-later n (suc x) (pushed w) (λ z. x≢n (omega arith))) (after-pushed n w x E′);
       }
 
+  -- where j is empty and another than the named robot is behind it, pushing that one does
   lower-off : cell a j ≡ 0 → ringBehind a j ≢ n → Named a → Early n (turn (suc j) a) → Lower j n a
   unfolding ringBehind
   lower-off e k nm E = go (trail-view (opened j a) (none-opened a j h e nm))
@@ -176,6 +187,7 @@ module _ (j n : ℕ) (a : Arrangement) (h : j < length a) (d : Distinct a) (g : 
             fewer = rw (s .2, y) (after-step n u x (replicate i 0) x≢n (early-none i) E′);
           }
 
+  -- so either entering may begin or one push lowers the measure
   pub lower : Named a → Early n (turn (suc j) a) → ((cell a j ≡ 0) × (ringBehind a j ≡ n)) ⊎ Lower j n a
   lower nm E = go (cell a j) refl (ℕ-discrete (ringBehind a j) n)
     where

@@ -29,11 +29,13 @@ pub record Turned (xs ys : List ℕ) : Type 0 where
   pub by : ℕ
   pub is : ys ≡ turn by xs
 
+-- turning twice is turning by the sum
 pub turn-add : (j k : ℕ) (xs : List ℕ) → turn (j + k) xs ≡ turn k (turn j xs)
 unfolding turn
 turn-add zero k xs = rw zero-add
 turn-add (suc j) k xs = rw suc-add (turn-add j k (turn1 xs))
 
+-- turning by the length of the first part swaps the parts
 pub turn-append : (xs ys : List ℕ) → turn (length xs) (xs ++ ys) ≡ ys ++ xs
 unfolding turn turn1
 turn-append [] ys = sym (append-nil ys)
@@ -43,14 +45,17 @@ turn-append (x ∷ xs) ys = ap (turn (length xs)) (append-assoc xs ys (x ∷ [])
 pub turned-trans : {xs ys zs : List ℕ} → Turned xs ys → Turned ys zs → Turned xs zs
 turned-trans {xs} t u = record { by = t .by + u .by; is = u .is ∙ rw (t .is, turn-add (t .by) (u .by) xs) }
 
+-- two parts swapped are turned
 pub turned-swap : (xs ys : List ℕ) → Turned (xs ++ ys) (ys ++ xs)
 turned-swap xs ys = record { by = length xs; is = sym (turn-append xs ys) }
 
+-- the empty list turns to itself
 pub turn-nil : (k : ℕ) → turn k [] ≡ []
 unfolding turn turn1
 turn-nil zero = refl
 turn-nil (suc k) = turn-nil k
 
+-- turning by one keeps the length
 pub length-turn1 : (a : Arrangement) → length (turn1 a) ≡ length a
 unfolding turn1
 length-turn1 [] = refl
@@ -60,6 +65,7 @@ length-turn1 (x ∷ a) = length-append a (x ∷ []) ∙ omega arith
 pub turn-round : (a : Arrangement) → turn (length a) a ≡ a
 turn-round a = ap (turn (length a)) (sym (append-nil a)) ∙ turn-append a []
 
+-- so does any turn
 pub length-turn : (k : ℕ) (a : Arrangement) → length (turn k a) ≡ length a
 unfolding turn
 length-turn zero a = refl
@@ -86,10 +92,12 @@ turn-split p a h =
 
 -- ---- none stands twice
 
+-- a number put behind others that differ from it
 once-snoc : {x : ℕ} {xs : List ℕ} → Once xs → Each (λ y. x ≢ y) xs → Once (xs ++ x ∷ [])
 once-snoc nil h = cons none nil
 once-snoc (cons h o) (_&&&_ k ks) = cons (each-append h ((λ e. k (sym e)) & none)) (once-snoc o ks)
 
+-- a turn by k keeps that none stands twice
 once-turn : (k : ℕ) {xs : List ℕ} → Once xs → Once (turn k xs)
 unfolding turn turn1
 once-turn zero o = o
@@ -111,6 +119,7 @@ pub record Anchor (c : ℕ) (r l : List ℕ) : Type 0 where
   pub not-before : Each (λ x. c ≢ x) before
   pub not-after : Each (λ x. c ≢ x) after
 
+-- turning by one keeps how a list goes on round from a number
 anchor-turn1 : {c : ℕ} {r l : List ℕ} → Anchor c r l → Anchor c r (turn1 l)
 unfolding turn1
 anchor-turn1 {c} {r} {l} s = go (s .before) (s .after) (s .cut) (s .round) (s .not-before) (s .not-after)
@@ -127,6 +136,7 @@ anchor-turn1 {c} {r} {l} s = go (s .before) (s .after) (s .cut) (s .round) (s .n
           not-after = each-append k (h & none);
         }
 
+-- so does any turn
 pub anchor-turn : (k : ℕ) {c : ℕ} {r l : List ℕ} → Anchor c r l → Anchor c r (turn k l)
 unfolding turn
 anchor-turn zero s = s
@@ -138,6 +148,7 @@ anchor-turned t s = rw (t .is) (anchor-turn (t .by) s)
 
 -- ---- the test
 
+-- the test says that one is the other, turned
 pub turned→ : (xs ys : List ℕ) → T (turned xs ys) → Turned xs ys
 unfolding turned turn
 turned→ [] ys h = record { by = 0; is = sym (same→eq [] ys h) }
@@ -146,6 +157,7 @@ turned→ (r ∷ rs) ys h =
     let e = same→eq (r ∷ rs) (drop i ys ++ take i ys) h in
     record { by = length (drop i ys); is = sym (ap (turn (length (drop i ys))) e ∙ turn-append (drop i ys) (take i ys) ∙ take-append-drop i ys) }
 
+-- and where it is, and none stands twice, it holds
 pub →turned : (xs ys : List ℕ) → Once xs → Turned xs ys → T (turned xs ys)
 unfolding turned
 →turned [] ys o t = eq→same [] ys (sym (t .is ∙ turn-nil (t .by)))
