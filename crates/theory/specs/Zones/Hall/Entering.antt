@@ -18,7 +18,7 @@ use Rattle.theory.specs.Zones.Moves.{runs-length}
 use Rattle.theory.specs.Zones.Hall.Order.{IsHall, runs-order}
 use Rattle.theory.specs.Zones.Hall.Places.{rising-append, rising-cut, take-cells, order-cells, Rising, cells, cell-cells, rising-least, rising-under, length-places, cells-order, rising-places}
 use Rattle.theory.specs.Zones.Hall.Walks.{run-trips}
-use Rattle.theory.specs.Zones.Hall.Room.{rising-below, rising-above, length-below, length-above, Fits, fits, has-room}
+use Rattle.theory.specs.Zones.Hall.Room.{rising-lower, rising-above, length-below, length-above, Fits, fits, has-room}
 use Rattle.theory.specs.Zones.Hall.Leaving.{among, among-index}
 
 -- the robots that count as below one that enters behind `named`
@@ -73,7 +73,7 @@ cut-count a ps qs o n e = go (ended ps) e
 module _ (m j : ℕ) (xs ys ps qs : List ℕ) (r : Rising 0 m (ps ++ qs)) (h : length ps ≡ length xs) (k : length qs ≡ length ys) (f : Fits m j (length xs) (length ys)) where
   -- the targets below j rise
   low-side : Rising 0 j (below j ps)
-  low-side = rising-below {lo = 0} j (rising-cut ps r .0) (omega arith) (omega arith)
+  low-side = rising-lower j ps qs r (omega arith)
 
   -- the targets above j rise
   high-side : Rising (suc j) m (above j qs)

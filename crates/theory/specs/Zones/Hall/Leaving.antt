@@ -18,7 +18,7 @@ use Rattle.theory.specs.Zones.Moves.{runs-length, runs-distinct}
 use Rattle.theory.specs.Zones.Hall.Order.{IsHall, runs-order}
 use Rattle.theory.specs.Zones.Hall.Places.{rising-join, rising-cut, cell-of, Rising, rise, cells, rising-under, length-places, cells-order, rising-places}
 use Rattle.theory.specs.Zones.Hall.Walks.{run-trips}
-use Rattle.theory.specs.Zones.Hall.Room.{rising-below, rising-above, length-below, length-above, Fits, fits, has-room}
+use Rattle.theory.specs.Zones.Hall.Room.{rising-lower, rising-above, length-below, length-above, Fits, fits, has-room}
 
 -- a robot among the others
 pub record Among (a : Arrangement) (r : ℕ) : Type 0 where
@@ -63,21 +63,17 @@ split-like (y ∷ xs) x ys [] h = absurd (omega arith)
 split-like (y ∷ xs) x ys (p ∷ l) h = let s = split-like xs x ys l (omega arith) in (p ∷ s .0, s .1, s .2, ap (λ r. p ∷ r) (s .3), ap suc (s .4), s .5)
 
 module _ (m j c : ℕ) (xs ys ps : List ℕ) (p : ℕ) (qs : List ℕ) (r : Rising 0 m (ps ++ p ∷ qs)) (h : length ps ≡ length xs) (k : length qs ≡ length ys) (f : Fits m j (length xs) (length ys)) where
-  -- the targets below j rise
-  low-part : Rising 0 j (below j ps)
-  low-part = rising-below {lo = 0} j (rising-cut ps r .0) (omega arith) (omega arith)
-
   -- the written moves lead to the targets
   run-cleared : {kind : ℕ} → Runs kind (hallMoves (trips (xs ++ c ∷ ys) (ps ++ p ∷ qs) (below j ps ++ j ∷ above j qs))) (cells m (xs ++ c ∷ ys) (ps ++ p ∷ qs)) (cells m (xs ++ c ∷ ys) (below j ps ++ j ∷ above j qs))
   run-cleared = run-trips (xs ++ c ∷ ys) (ps ++ p ∷ qs) (below j ps ++ j ∷ above j qs)
-      (simp length-append (omega arith)) (simp (length-append, length-below, length-above) (omega arith)) r (rising-join low-part (rising-above j (high (rising-cut ps r .1)) (omega arith) (omega arith)))
+      (simp length-append (omega arith)) (simp (length-append, length-below, length-above) (omega arith)) r (rising-join (rising-lower j ps (p ∷ qs) r (omega arith)) (rising-above j (high (rising-cut ps r .1)) (omega arith) (omega arith)))
     where
       high : Rising 0 m (p ∷ qs) → Rising (suc p) m qs
       high (rise h r) = r
 
   -- they bring the leaver to j
   cell-cleared : cell (cells m (xs ++ c ∷ ys) (below j ps ++ j ∷ above j qs)) j ≡ suc c
-  cell-cleared = cell-of m j c xs (below j ps) ys (above j qs) (length-below j ps ∙ h) (omega arith) (rising-under low-part)
+  cell-cleared = cell-of m j c xs (below j ps) ys (above j qs) (length-below j ps ∙ h) (omega arith) (rising-under (rising-lower j ps (p ∷ qs) r (omega arith)))
 
 -- the written moves, by the parts of the order and of the places
 leave-is : (a : Arrangement) (r j : ℕ) (xs ps : List ℕ) (p : ℕ) (qs : List ℕ) → order a ≡ xs → indexOf r xs ≡ length ps → places 0 a ≡ ps ++ p ∷ qs

@@ -1,19 +1,23 @@
 -- Halls: the targets of leaving and entering rise where there is room.
 use mathlib.Core.Path.{_≡_, refl, ap}
-use mathlib.Core.List.{List, [], _∷_}
+use mathlib.Core.List.{List, [], _∷_, _++_}
 use Prim.Native.Nat.{ℕ, _+_, _≤_, suc, _<_, max}
 use native.Mathlib.Omega.{arith}
 use lib.ListN.{length}
 use lib.Dec.{T, leb, ltb, leb→le, ltb→lt, le→leb, lt→ltb}
 use Rattle.spec.specs.Hall.{below, above, room}
 use Rattle.theory.specs.Basics.Tests.{and-left, and-right, and-both}
-use Rattle.theory.specs.Zones.Hall.Places.{Rising, rest, rise, end, _◃_}
+use Rattle.theory.specs.Zones.Hall.Places.{rising-cut, Rising, rest, rise, end, _◃_}
 
 -- the targets below j rise where there is room below it
-pub rising-below : {lo u hi : ℕ} (j : ℕ) {ps : List ℕ} → Rising u hi ps → lo ≤ u → lo + length ps ≤ j → Rising lo j (below j ps)
+rising-below : {lo u hi : ℕ} (j : ℕ) {ps : List ℕ} → Rising u hi ps → lo ≤ u → lo + length ps ≤ j → Rising lo j (below j ps)
 unfolding below
 rising-below j (rest h) k f = end (omega arith)
 rising-below j (rise h r) k f = omega arith ◃ rising-below j r (omega arith) (omega arith)
+
+-- so do those of the first of the places
+pub rising-lower : {m : ℕ} (j : ℕ) (ps qs : List ℕ) → Rising 0 m (ps ++ qs) → length ps ≤ j → Rising 0 j (below j ps)
+rising-lower j ps qs r h = rising-below {lo = 0} j (rising-cut ps r .0) (omega arith) (omega arith)
 
 -- the targets above j rise where there is room above it
 pub rising-above : {lo u m : ℕ} (j : ℕ) {qs : List ℕ} → Rising u m qs → lo ≤ max u (suc j) → j + length qs < m → Rising lo m (above j qs)

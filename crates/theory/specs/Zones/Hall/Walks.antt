@@ -146,47 +146,22 @@ module _ {m : ℕ} where
 -- ---- trips made of lists
 
 -- the robots, the places and the targets of the trips are the lists that they were made of
-module _ {A : Type 0} where
-  -- three lists of one length
-  Even : List A → List A → List A → Type 0
-  Even cs ps qs = (length ps ≡ length cs) × (length qs ≡ length cs)
-
--- the robots
-trips-robots : (cs ps qs : List ℕ) → Even cs ps qs → map (λ t. t .robot) (trips cs ps qs) ≡ cs
-unfolding trips Even
-trips-robots [] ps qs h = refl
-trips-robots (c ∷ cs) [] qs h = absurd (omega arith)
-trips-robots (c ∷ cs) (p ∷ ps) [] h = absurd (omega arith)
-trips-robots (c ∷ cs) (p ∷ ps) (q ∷ qs) h = ap (λ r. c ∷ r) (trips-robots cs ps qs (omega arith))
-
--- the places
-trips-from : (cs ps qs : List ℕ) → Even cs ps qs → map (λ t. t .from) (trips cs ps qs) ≡ ps
-unfolding trips Even
-trips-from [] [] qs h = refl
-trips-from [] (p ∷ ps) qs h = absurd (omega arith)
-trips-from (c ∷ cs) [] qs h = refl
-trips-from (c ∷ cs) (p ∷ ps) [] h = absurd (omega arith)
-trips-from (c ∷ cs) (p ∷ ps) (q ∷ qs) h = ap (λ r. p ∷ r) (trips-from cs ps qs (omega arith))
-
--- the targets
-trips-to : (cs ps qs : List ℕ) → Even cs ps qs → map (λ t. t .to) (trips cs ps qs) ≡ qs
-unfolding trips Even
-trips-to [] ps [] h = refl
-trips-to [] ps (q ∷ qs) h = absurd (omega arith)
-trips-to (c ∷ cs) [] qs h = absurd (omega arith)
-trips-to (c ∷ cs) (p ∷ ps) [] h = refl
-trips-to (c ∷ cs) (p ∷ ps) (q ∷ qs) h = ap (λ r. q ∷ r) (trips-to cs ps qs (omega arith))
+trips-lists : (cs ps qs : List ℕ) → length ps ≡ length cs → length qs ≡ length cs
+    → (map (λ t. t .robot) (trips cs ps qs) ≡ cs) × (map (λ t. t .from) (trips cs ps qs) ≡ ps) × (map (λ t. t .to) (trips cs ps qs) ≡ qs)
+unfolding trips
+trips-lists [] [] [] h k = (refl, refl, refl)
+trips-lists [] [] (q ∷ qs) h k = absurd (omega arith)
+trips-lists [] (p ∷ ps) qs h k = absurd (omega arith)
+trips-lists (c ∷ cs) [] qs h k = absurd (omega arith)
+trips-lists (c ∷ cs) (p ∷ ps) [] h k = absurd (omega arith)
+trips-lists (c ∷ cs) (p ∷ ps) (q ∷ qs) h k = let s = trips-lists cs ps qs (omega arith) (omega arith) in (ap (λ r. c ∷ r) (s .0), ap (λ r. p ∷ r) (s .1), ap (λ r. q ∷ r) (s .2))
 
 -- on lists: robots at rising places go to other rising places
 pub run-trips : {kind m u v : ℕ} (cs ps qs : List ℕ) → length ps ≡ length cs → length qs ≡ length cs → Rising u m ps → Rising v m qs
     → Runs kind (hallMoves (trips cs ps qs)) (cells m cs ps) (cells m cs qs)
-unfolding Even
 run-trips {kind} {m} cs ps qs h k r s =
-    let e : Even cs ps qs = (h, k) in
-    let c = trips-robots cs ps qs e in
-    let f = trips-from cs ps qs e in
-    let t = trips-to cs ps qs e in
-    simp (c, f, t) at (run-hallMoves {kind = kind} (trips cs ps qs) (rw (← f) at r) (rw (← t) at s))
+    let e = trips-lists cs ps qs h k in
+    simp (e .0, e .1, e .2) at (run-hallMoves {kind = kind} (trips cs ps qs) (rw (← e .1) at r) (rw (← e .2) at s))
 
 -- the written moves lead to any arrangement with the same order
 pub run-hallEnd : {kind : ℕ} (a b : Arrangement) → length a ≡ length b → order a ≡ order b → Runs kind (hallEnd a b) a b
