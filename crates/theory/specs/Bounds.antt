@@ -10,20 +10,24 @@ use Rattle.spec.specs.Outcome.{ok, indexOf}
 use Rattle.spec.specs.Layout.{Map, Zone, Placing, mapOf, zoneOf, zoneAt}
 use Rattle.spec.specs.Arrangement.{Move}
 use Rattle.spec.specs.ZoneKind.{leave, enter, end}
-use Rattle.spec.specs.State.{State, arrangementOf, acrossMove, across, standing}
+use Rattle.spec.specs.State.{State, robotOn, cellOf, arrangementOf, acrossMove, across, standing}
 use Rattle.spec.specs.Run.{Ran, stepAt, stepsFrom, endingsFrom, resolvedMoves}
 use Rattle.theory.specs.Basics.Outcomes.{ok-injective, passed, bound, seq-ok}
 use Rattle.theory.specs.Basics.Lists.{Each, none, _&&&_, _&_}
 use Rattle.theory.specs.Basics.Searches.{index-le}
 use Rattle.theory.specs.Zones.Lengths.{mostMoves, most-mono, leave-length, enter-length, end-length}
 use Rattle.theory.specs.Maps.Layout.{map-accepted}
-use Rattle.theory.specs.Maps.State.{arr-length}
 use Rattle.theory.specs.Maps.ZoneSize.{zone-size, map-zones}
 use Rattle.theory.specs.Plans.Step.{taken-at}
 
 -- the most moves of a step between zones of at most n vertices: those of leaving, those of entering, and the crossing
 unfoldable pub stepMost : ℕ → ℕ
 stepMost n = 2 * mostMoves n + 1
+
+-- an arrangement has a place for each vertex
+arranged-length : (s : State) (vs : List ℕ) → length (arrangementOf s vs) ≡ length vs
+unfolding arrangementOf
+arranged-length s vs = length-map vs (λ v. cellOf (robotOn s v))
 
 -- moves between places and between vertices are as many
 across-length : (vs : List ℕ) (ms : List Move) → length (across vs ms) ≡ length ms
@@ -36,21 +40,21 @@ module _ (n : ℕ) (y : Zone) (h : length (y .vertices) ≤ n) (s : State) where
   leave-few r v =
       let a = arrangementOf s (y .vertices) in
       let ms = leave (y .kind) a r (indexOf v (y .vertices)) in
-      omega (arith, across-length (y .vertices) ms, arr-length s y, leave-length (y .kind) a r (indexOf v (y .vertices)) (omega (arith, arr-length s y, index-le v (y .vertices))), most-mono (length a) n (omega (arith, arr-length s y)))
+      omega (arith, across-length (y .vertices) ms, arranged-length s (y .vertices), leave-length (y .kind) a r (indexOf v (y .vertices)) (omega (arith, arranged-length s (y .vertices), index-le v (y .vertices))), most-mono (length a) n (omega (arith, arranged-length s (y .vertices))))
 
   -- entering such a zone
   enter-few : (v behind : ℕ) (list : List ℕ) → length (across (y .vertices) (enter (y .kind) (arrangementOf s (y .vertices)) (indexOf v (y .vertices)) behind list)) ≤ mostMoves n
   enter-few v behind list =
       let a = arrangementOf s (y .vertices) in
       let ms = enter (y .kind) a (indexOf v (y .vertices)) behind list in
-      omega (arith, across-length (y .vertices) ms, enter-length (y .kind) a (indexOf v (y .vertices)) behind list (omega (arith, arr-length s y, index-le v (y .vertices))), most-mono (length a) n (omega (arith, arr-length s y)))
+      omega (arith, across-length (y .vertices) ms, enter-length (y .kind) a (indexOf v (y .vertices)) behind list (omega (arith, arranged-length s (y .vertices), index-le v (y .vertices))), most-mono (length a) n (omega (arith, arranged-length s (y .vertices))))
 
   -- ending in such a zone
   end-few : (g : State) → length (across (y .vertices) (end (y .kind) (arrangementOf s (y .vertices)) (arrangementOf g (y .vertices)))) ≤ mostMoves n
   end-few g =
       let a = arrangementOf s (y .vertices) in
       let b = arrangementOf g (y .vertices) in
-      omega (arith, across-length (y .vertices) (end (y .kind) a b), end-length (y .kind) a b (omega (arith, arr-length s y, arr-length g y)), most-mono (length a) n (omega (arith, arr-length s y)))
+      omega (arith, across-length (y .vertices) (end (y .kind) a b), end-length (y .kind) a b (omega (arith, arranged-length s (y .vertices), arranged-length g (y .vertices))), most-mono (length a) n (omega (arith, arranged-length s (y .vertices))))
 
 module _ (m : Map) (n : ℕ) (small : (z : ℕ) → length (zoneAt m z .vertices) ≤ n) where
   -- a step has at most that many moves, and takes four bytes or more

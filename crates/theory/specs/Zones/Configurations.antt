@@ -20,7 +20,7 @@ use Rattle.theory.specs.Zones.Clique.Rule.{clique-reach}
 use Rattle.theory.specs.Zones.Ring.Turning.{Turned}
 use Rattle.theory.specs.Zones.Ring.Order.{runs-turned}
 use Rattle.theory.specs.Zones.Ring.Ending.{ring-goes}
-use Rattle.theory.specs.Zones.Kinds.{laws, opens}
+use Rattle.theory.specs.Zones.Kinds.{laws, opens, may-open}
 
 -- ---- what is reachable
 
@@ -69,7 +69,7 @@ entering kind a r j behind list d n h f = (
   λ t.
       let s = opens kind a r j behind list d n h f t in
       (s .0, (enter kind a j behind list, s .1), s .2 .clear, s .2 .named-behind, s .2 .listed),
-  λ s. laws kind .can-enter a (s .0) r j behind list d n h f (s .1) (s .2) (s .3) (s .4),
+  λ s. may-open kind a (s .0) r j behind list d n h (s .1) (s .2) (s .3) (s .4),
 )
 
 -- the goals may be taken exactly if they are reachable; nothing is asked of the goals but their length

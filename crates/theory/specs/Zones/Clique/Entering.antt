@@ -51,12 +51,12 @@ listed-length a r j list f e s = omega (arith, s .count, count-clear (named list
 
 -- ---- the moves and the test
 
-module _ (a : Arrangement) (r j behind : ℕ) (list : List ℕ) (d : Distinct a) (h : j < length a) (f : length (order a) < length a) where
+module _ (a : Arrangement) (r j behind : ℕ) (list : List ℕ) (h : j < length a) where
   -- where a robot may enter the written moves empty j, and the rest stand as listed where the clique is filled
-  pub clique-enter : T (cliqueCanEnter a r j behind list)
+  pub clique-enter : Distinct a → length (order a) < length a → T (cliqueCanEnter a r j behind list)
       → (b : Arrangement) × Runs 3 (cliqueEnter a j list) a b × (cell b j ≡ 0) × (255 ≡ behind) × (T (lastFree a) → list ≡ robotsOf (set b j (suc r)))
   unfolding cliqueCanEnter cliqueEnter lastFree
-  clique-enter t = go (eqb? (suc (length (order a))) (length a)) (and-right (eqb behind 255) (elim (lastFree a) [ true ↦ named-right | false ↦ true ]) t)
+  clique-enter d f t = go (eqb? (suc (length (order a))) (length a)) (and-right (eqb behind 255) (elim (lastFree a) [ true ↦ named-right | false ↦ true ]) t)
     where
       g : Arrangement
       g = set (named list) j 0

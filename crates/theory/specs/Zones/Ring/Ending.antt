@@ -169,7 +169,7 @@ module _ (a b : Arrangement) (j r : ℕ) (d : Distinct a) (s : Reachable 4 a b) 
       once-a = once-turned swap-back (once-order a d)
 
       none-a : Each (λ x. 255 ≢ x) (order (opened j a))
-      none-a = none-opened a j h e n
+      none-a = none-opened a j n
 
       none-b : Each (λ x. 255 ≢ x) (order (opened j b))
-      none-b = none-opened b j k f (runs-named (s .1) n)
+      none-b = none-opened b j (runs-named (s .1) n)

@@ -150,7 +150,7 @@ ring-entered a b j n h nm s e k = if-T (eqb (length (order a)) 0) (eqb n 255) (m
     nobody t = eq→eqb n 255 (sym k ∙ ring-empty b j l (sym (runs-count (s .1)) ∙ eqb→eq (length (order a)) 0 t) .1)
 
     somebody : T (not (eqb (length (order a)) 0)) → T (member n (order a))
-    somebody t = go (trail-view (opened j b) (none-opened b j l e (runs-named (s .1) nm)))
+    somebody t = go (trail-view (opened j b) (none-opened b j (runs-named (s .1) nm)))
       where
         go : Trail (opened j b) → T (member n (order a))
         go (bare i w) = absurd (T-not (eqb (length (order a)) 0) t (eq→eqb (length (order a)) 0 (runs-count (s .1) ∙ sym (count-opened j b 0 l e) ∙ ap (λ x. length (order x)) w ∙ ap length (order-none i))))

@@ -13,8 +13,8 @@ use Rattle.spec.specs.Arrangement.{Arrangement, cell, order}
 use Rattle.spec.specs.Hall.{hallEnd}
 use Rattle.spec.specs.Terms.{Named, Runs, Distinct}
 use Rattle.spec.specs.Ring.{opened, inRing}
-use Rattle.theory.specs.Basics.Lists.{Each, each-append, each-split, in-right, in-head, split-once}
-use Rattle.theory.specs.Zones.Arrangements.{order-append, order-gap, none-255, cell-inside, cell-take, order-at, not-under, not-over}
+use Rattle.theory.specs.Basics.Lists.{Each, in-right, in-head, split-once}
+use Rattle.theory.specs.Zones.Arrangements.{order-append, none-255, cell-inside, cell-take, order-at, not-under, not-over}
 use Rattle.theory.specs.Zones.Hall.Walks.{run-hallEnd}
 use Rattle.theory.specs.Zones.Ring.Turning.{turn-split, turn, turn1, length-turn, turn-back, Anchor, anchor-turned, Turned}
 use Rattle.theory.specs.Zones.Ring.Frames.{runs-before, in-ring, runs-from}
@@ -60,12 +60,6 @@ pub opened-set : (j : ℕ) (a : Arrangement) (x : ℕ) → opened j (set a j x) 
 unfolding opened
 opened-set j a x = ap₂ {C = List ℕ} (λ u v. u ++ v) (drop-set-lt (suc j) a j x (omega arith)) (take-set-le j a j x (omega arith))
 
--- none of the rest is 255
-pub none-opened : (a : Arrangement) (j : ℕ) → j < length a → cell a j ≡ 0 → Named a → Each (λ x. 255 ≢ x) (order (opened j a))
-none-opened a j h e n =
-    let s = each-split (order (take j a)) (rw (order-gap a j e) at (none-255 a n)) in
-    rw (order-opened j a) (each-append (s .1) (s .0))
-
 -- whoever stands elsewhere stands in the opened ring
 pub opened-cell : (j : ℕ) (a : Arrangement) (i n : ℕ) → cell a i ≡ suc n → i ≢ j → (k : ℕ) × (cell (opened j a) k ≡ suc n)
 unfolding opened
@@ -87,6 +81,10 @@ cell-opened j a k x e = go (decLt k (length (drop (suc j) a)))
     go (no l) =
         let q : length (drop (suc j) a) + (k - length (drop (suc j) a)) ≡ k = omega arith in
         (k - length (drop (suc j) a), cell-take j a (k - length (drop (suc j) a)) x (sym (getD-append-add (drop (suc j) a) (take j a) (k - length (drop (suc j) a)) 0) ∙ ap (cell (drop (suc j) a ++ take j a)) q ∙ e) .1)
+
+-- none of them is 255
+pub none-opened : (a : Arrangement) (j : ℕ) → Named a → Each (λ x. 255 ≢ x) (order (opened j a))
+none-opened a j n = none-255 (opened j a) (λ k c e. let s = cell-opened j a k c e in n (s .0) c (s .1))
 
 -- ---- the places but one are a hall
 

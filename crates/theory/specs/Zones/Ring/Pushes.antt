@@ -169,7 +169,7 @@ module _ (j n : ℕ) (a : Arrangement) (h : j < length a) (d : Distinct a) (g : 
   -- where j is empty and another than the named robot is behind it, pushing that one does
   lower-off : cell a j ≡ 0 → ringBehind a j ≢ n → Named a → Early n (turn (suc j) a) → Lower j n a
   unfolding ringBehind
-  lower-off e k nm E = go (trail-view (opened j a) (none-opened a j h e nm))
+  lower-off e k nm E = go (trail-view (opened j a) (none-opened a j nm))
     where
       go : Trail (opened j a) → Lower j n a
       go (bare i w) = absurd (early-not (opened j a) 0 (rw (turn-past j a h, e) at E) (rw (w, order-none i) none))
