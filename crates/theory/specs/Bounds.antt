@@ -35,26 +35,23 @@ unfolding across
 across-length vs ms = length-map ms (λ m. acrossMove vs m)
 
 module _ (n : ℕ) (y : Zone) (h : length (y .vertices) ≤ n) (s : State) where
-  -- leaving a zone of at most n vertices
-  leave-few : (r v : ℕ) → length (across (y .vertices) (leave (y .kind) (arrangementOf s (y .vertices)) r (indexOf v (y .vertices)))) ≤ mostMoves n
-  leave-few r v =
+  -- moves of a zone of at most n vertices that are within the zone's bound are within that of n
+  few : (ms : List Move) → length ms ≤ mostMoves (length (arrangementOf s (y .vertices))) → length (across (y .vertices) ms) ≤ mostMoves n
+  few ms k =
       let a = arrangementOf s (y .vertices) in
-      let ms = leave (y .kind) a r (indexOf v (y .vertices)) in
-      omega (arith, across-length (y .vertices) ms, arranged-length s (y .vertices), leave-length (y .kind) a r (indexOf v (y .vertices)) (omega (arith, arranged-length s (y .vertices), index-le v (y .vertices))), most-mono (length a) n (omega (arith, arranged-length s (y .vertices))))
+      omega (arith, across-length (y .vertices) ms, most-mono (length a) n (omega (arith, arranged-length s (y .vertices))))
+
+  -- leaving such a zone
+  pub leave-few : (r v : ℕ) → length (across (y .vertices) (leave (y .kind) (arrangementOf s (y .vertices)) r (indexOf v (y .vertices)))) ≤ mostMoves n
+  leave-few r v = few _ (leave-length (y .kind) (arrangementOf s (y .vertices)) r (indexOf v (y .vertices)) (omega (arith, arranged-length s (y .vertices), index-le v (y .vertices))))
 
   -- entering such a zone
-  enter-few : (v behind : ℕ) (list : List ℕ) → length (across (y .vertices) (enter (y .kind) (arrangementOf s (y .vertices)) (indexOf v (y .vertices)) behind list)) ≤ mostMoves n
-  enter-few v behind list =
-      let a = arrangementOf s (y .vertices) in
-      let ms = enter (y .kind) a (indexOf v (y .vertices)) behind list in
-      omega (arith, across-length (y .vertices) ms, enter-length (y .kind) a (indexOf v (y .vertices)) behind list (omega (arith, arranged-length s (y .vertices), index-le v (y .vertices))), most-mono (length a) n (omega (arith, arranged-length s (y .vertices))))
+  pub enter-few : (v behind : ℕ) (list : List ℕ) → length (across (y .vertices) (enter (y .kind) (arrangementOf s (y .vertices)) (indexOf v (y .vertices)) behind list)) ≤ mostMoves n
+  enter-few v behind list = few _ (enter-length (y .kind) (arrangementOf s (y .vertices)) (indexOf v (y .vertices)) behind list (omega (arith, arranged-length s (y .vertices), index-le v (y .vertices))))
 
   -- ending in such a zone
-  end-few : (g : State) → length (across (y .vertices) (end (y .kind) (arrangementOf s (y .vertices)) (arrangementOf g (y .vertices)))) ≤ mostMoves n
-  end-few g =
-      let a = arrangementOf s (y .vertices) in
-      let b = arrangementOf g (y .vertices) in
-      omega (arith, across-length (y .vertices) (end (y .kind) a b), end-length (y .kind) a b (omega (arith, arranged-length s (y .vertices), arranged-length g (y .vertices))), most-mono (length a) n (omega (arith, arranged-length s (y .vertices))))
+  pub end-few : (g : State) → length (across (y .vertices) (end (y .kind) (arrangementOf s (y .vertices)) (arrangementOf g (y .vertices)))) ≤ mostMoves n
+  end-few g = few _ (end-length (y .kind) (arrangementOf s (y .vertices)) (arrangementOf g (y .vertices)) (omega (arith, arranged-length s (y .vertices), arranged-length g (y .vertices))))
 
 module _ (m : Map) (n : ℕ) (small : (z : ℕ) → length (zoneAt m z .vertices) ≤ n) where
   -- a step has at most that many moves, and takes four bytes or more
