@@ -1,5 +1,5 @@
 -- How long a resolved list is: bounds for a step, for the steps, for the endings and for the whole list, so that a count of moves cannot overflow.
-use mathlib.Core.Path.{_≡_, ap}
+use mathlib.Core.Path.{_≡_, ap, _∙_}
 use mathlib.Core.List.{List, [], _∷_}
 use Prim.Native.Nat.{ℕ, zero, suc, _+_, _*_, _^_, _≤_, _<_}
 use native.Mathlib.Nat.{suc-mul}
@@ -11,10 +11,12 @@ use Rattle.spec.specs.Layout.{Map, Zone, Placing, mapOf, zoneOf, zoneAt}
 use Rattle.spec.specs.Arrangement.{Move}
 use Rattle.spec.specs.ZoneKind.{leave, enter, end}
 use Rattle.spec.specs.State.{State, robotOn, cellOf, arrangementOf, acrossMove, across, standing}
+use Rattle.spec.specs.Services.{instanceOf, planMoves}
 use Rattle.spec.specs.Run.{Ran, stepAt, stepsFrom, endingsFrom, resolvedMoves}
 use Rattle.theory.specs.Basics.Outcomes.{ok-injective, passed, bound, seq-ok}
 use Rattle.theory.specs.Basics.Lists.{Each, none, _&&&_, _&_}
 use Rattle.theory.specs.Basics.Searches.{index-le}
+use Rattle.theory.specs.Codec.{payload-most}
 use Rattle.theory.specs.Zones.Lengths.{mostMoves, most-mono, leave-length, enter-length, end-length}
 use Rattle.theory.specs.Maps.Layout.{map-accepted}
 use Rattle.theory.specs.Maps.ZoneSize.{zone-size, map-zones}
@@ -110,3 +112,16 @@ resolved-bound q m pl p ms a h e =
     let g = map-accepted q m a in
     let r = resolved-few m 128 (λ z. omega (arith, zone-size g z, g .small)) pl p ms e in
     omega (arith, r .1, r .2, map-zones q m a)
+
+-- and so has any plan that is resolved, whatever the files hold
+pub plan-bound : (a b c : List ℕ) (ms : List Move) → planMoves a b c ≡ ok ms → length ms < 2 ^ 36
+unfolding planMoves instanceOf
+plan-bound a b c ms e =
+    let i = bound _ _ _ e in
+    let p = bound _ _ _ (i .2) in
+    let mp = bound _ _ _ (i .1) in
+    let m = bound _ _ _ (mp .2) in
+    let pp = bound _ _ _ (m .2) in
+    let pl = bound _ _ _ (pp .2) in
+    let g : mapOf (mp .0) ≡ ok (i .0 .graph) = m .1 ∙ ap (λ it. ok (it .graph)) (ok-injective (pl .2)) in
+    resolved-bound (mp .0) (i .0 .graph) (i .0 .placing) (p .0) ms g (omega (arith, payload-most 30 3 64 c (p .0) (p .1))) (p .2)

@@ -8,7 +8,7 @@ use native.Mathlib.Nat.{le-of-eq}
 use native.Mathlib.Omega.{arith}
 use lib.ListN.{length, getD, take, drop, replicate, length-take, length-drop, take-append-drop, length-append}
 use lib.Seq.{length-take-le, drop-cons, take-take, drop-length, take-at, drop-at, take-all}
-use lib.Dec.{T, eqb, eqb→eq, leb→le, lit<}
+use lib.Dec.{leb, T, eqb, eqb→eq, leb→le, lit<}
 use Rattle.spec.specs.Outcome.{all, u16, ok}
 use Rattle.spec.specs.Wire.{checksum, word, blockOf, headOk, blocksFrom, filled, fillOk, payloadFrom, fileOf, payloadOf}
 use Rattle.spec.specs.Terms.{Bytes}
@@ -67,6 +67,12 @@ module _ (b : List ℕ) (bytes : Bytes b) (whole : length b ≡ 512) where
 
 -- ---- all the blocks
 
+-- no block holds more than 504 bytes of payload
+fill-most : (last : Bool) (n : ℕ) → T (filled last n) → n ≤ 504
+unfolding filled
+fill-most true n t = leb→le n 504 (and-right (leb 1 n) (leb n 504) t)
+fill-most false n t = le-of-eq (eqb→eq n 504 t)
+
 module _ (base kind : ℕ) where
   -- what one block tells
   record First (i rest : ℕ) (b d done p : List ℕ) : Type 0 where
@@ -82,7 +88,7 @@ module _ (base kind : ℕ) where
       let one = passed _ _ _ _ _ e in
       let two = passed _ _ _ _ _ (one .1) in
       let three = passed _ _ _ _ _ (two .1) in
-      let s : word b 4 ≤ 504 = small (eqb rest 0) (and-left _ _ (three .0)) in
+      let s : word b 4 ≤ 504 = fill-most (eqb rest 0) (word b 4) (and-left _ _ (three .0)) in
       let n : length (take (word b 4) (drop 6 b)) ≡ word b 4 = length-take-le (word b 4) (drop 6 b) (omega (arith, length-drop 6 b)) in
       record {
         part = take (word b 4) (drop 6 b);
@@ -90,10 +96,6 @@ module _ (base kind : ℕ) where
         fill = rw n (and-left _ _ (three .0));
         follow = three .1;
       }
-    where
-      small : (t : Bool) → T (filled t (word b 4)) → word b 4 ≤ 504
-      small true t = leb→le _ _ (and-right _ _ t)
-      small false t = le-of-eq (eqb→eq (word b 4) 504 t)
 
   -- the blocks of a file that is read are the written ones
   pub record Written (n i : ℕ) (f done p : List ℕ) : Type 0 where
@@ -182,6 +184,32 @@ payload-bytes base kind (suc n) i f done p h k e =
 pub written-bytes : (base kind limit : ℕ) (f p : List ℕ) → Bytes f → payloadOf base kind limit f ≡ ok p → Bytes p
 unfolding payloadOf
 written-bytes base kind limit f p h e = payload-bytes base kind (length f / 512) 0 f [] p h (λ i. lit< tt) (passed _ _ _ _ _ e .1)
+
+-- ---- its length
+
+-- what is read of a block is at most 504 bytes, whatever the block holds
+block-most : (last : Bool) (b : List ℕ) → T (fillOk last b) → length (take (word b 4) (drop 6 b)) ≤ 504
+unfolding fillOk
+block-most last b t = omega (arith, fill-most last (word b 4) (and-left _ _ t), length-take (word b 4) (drop 6 b))
+
+-- each block adds at most 504 bytes
+blocks-most : (base kind n i : ℕ) (f done p : List ℕ) → payloadFrom base kind i n f done ≡ ok p → length p ≤ length done + n * 504
+unfolding oneBlock
+blocks-most base kind zero i f done p e = omega (arith, ap length (ok-injective (sym (payload-none base kind i f done) ∙ e)))
+blocks-most base kind (suc n) i f done p e =
+    let b = take 512 f in
+    let o = passed _ _ _ _ _ (passed _ _ _ _ _ (passed _ _ _ _ _ (rw payload-step at e) .1) .1) in
+    let m = block-most (eqb n 0) b (o .0) in
+    omega (arith, blocks-most base kind n (i + 1) (drop 512 f) (done ++ take (word b 4) (drop 6 b)) p (o .1), length-append done (take (word b 4) (drop 6 b)))
+
+-- a payload is at most 504 bytes for each block of the limit, whatever the file holds
+pub payload-most : (base kind limit : ℕ) (f p : List ℕ) → payloadOf base kind limit f ≡ ok p → length p ≤ 504 * limit
+unfolding payloadOf
+payload-most base kind limit f p e =
+    let one = passed _ _ _ _ _ e in
+    let c : length f / 512 ≤ limit = leb→le _ _ (and-right _ _ (and-right _ _ (one .0))) in
+    let l : length p ≤ 0 + length f / 512 * 504 = blocks-most base kind (length f / 512) 0 f [] p (one .1) in
+    omega arith
 
 -- ---- exactly
 
