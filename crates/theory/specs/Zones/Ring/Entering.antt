@@ -1,9 +1,9 @@
 -- Rings: the test and moves of entering are right. The ring is turned until the named robot is the first behind place j.
 use mathlib.Core.Path.{_≡_, refl, sym, ap, _∙_}
-use mathlib.Core.Logic.{_≢_, _⊎_, inl, inr}
+use mathlib.Core.Logic.{_⊎_, inl, inr}
 use mathlib.Core.Bool.{Bool, true, false, not}
-use mathlib.Core.List.{[], List, _++_, _∷_}
-use Prim.Native.Nat.{ℕ, zero, suc, _-_, _≤_, _<_, _*_}
+use mathlib.Core.List.{[], _++_, _∷_}
+use Prim.Native.Nat.{ℕ, zero, suc, _≤_, _<_, _*_}
 use native.Mathlib.Decide.{ℕ-discrete}
 use native.Mathlib.Nat.{mul-suc, mul-le-mul-left}
 use native.Mathlib.Omega.{arith}
@@ -11,10 +11,10 @@ use lib.ListN.{length, replicate}
 use lib.Seq.{getD-append-seam}
 use lib.Dec.{eqb, T, eqb→eq, T-not}
 use Rattle.spec.specs.Outcome.{_&&_, member}
-use Rattle.spec.specs.Arrangement.{Arrangement, cell, Move, applyAll, seek, order, lastNamed}
+use Rattle.spec.specs.Arrangement.{Arrangement, cell, order, lastNamed}
 use Rattle.spec.specs.Terms.{Runs, done, Distinct, Named, Reachable}
 use Rattle.spec.specs.Ring.{ringBehind, entryOpen, turnFor, push, turnPlace, opened, ringCanEnter, ringEnter}
-use Rattle.theory.specs.Basics.Tests.{if-true, eq→eqb, and-both, Eqb, same, other, eqb?, if-T}
+use Rattle.theory.specs.Basics.Tests.{if-true, if-false, eq→eqb, and-both, Eqb, same, other, eqb?, if-T}
 use Rattle.theory.specs.Zones.Arrangements.{member→cell, cell→member}
 use Rattle.theory.specs.Zones.Moves.{runs-append, runs-length, runs-applied, runs-distinct, runs-count}
 use Rattle.theory.specs.Zones.Robots.{runs-named, runs-robots}
@@ -23,36 +23,22 @@ use Rattle.theory.specs.Zones.Ring.Turning.{turn, length-turn}
 use Rattle.theory.specs.Zones.Ring.Opened.{count-opened, opened-cell, turn-past, count-turn, length-opened, cell-opened, none-opened}
 use Rattle.theory.specs.Zones.Ring.Push.{pushed}
 use Rattle.theory.specs.Zones.Ring.Measure.{after, Early, spread, at-once, after-here, length-pushed, after-le, spread-le, count-pushed, early-of}
-use Rattle.theory.specs.Zones.Ring.Pushes.{Lower, lower, push-off, Trail, bare, trail, trail-view}
+use Rattle.theory.specs.Zones.Ring.Pushes.{Open, place-on, shut-on, Lower, lower, push-off, Trail, bare, trail, trail-view}
 
 -- ---- the loop
 
--- nothing moves where place j is empty and the named robot behind it
-turn-stays : (f : ℕ) (a : Arrangement) (j n : ℕ) → cell a j ≡ 0 → ringBehind a j ≡ n → turnFor f a j n ≡ []
+-- nothing moves where the place is open
+turn-stays : (f : ℕ) (a : Arrangement) (j n : ℕ) → Open j n a → turnFor f a j n ≡ []
 unfolding turnFor entryOpen
-turn-stays zero a j n e k = refl
-turn-stays (suc f) a j n e k = if-true (eqb (cell a j) 0 && eqb (ringBehind a j) n) [] _ (and-both (eqb (cell a j) 0) (eqb (ringBehind a j) n) (eq→eqb (cell a j) 0 e) (eq→eqb (ringBehind a j) n k))
+turn-stays zero a j n o = refl
+turn-stays (suc f) a j n o = if-true (eqb (cell a j) 0 && eqb (ringBehind a j) n) [] _ (and-both (eqb (cell a j) 0) (eqb (ringBehind a j) n) (eq→eqb (cell a j) 0 (o .0)) (eq→eqb (ringBehind a j) n (o .1)))
 
--- otherwise the robot on j is pushed, or if j is empty the first behind it
-turn-steps : (f : ℕ) (a b : Arrangement) (j n p : ℕ) → ((cell a j ≡ suc (cell a j - 1)) × (p ≡ j)) ⊎ ((cell a j ≡ 0) × (ringBehind a j ≢ n) × (seek (suc (ringBehind a j)) a ≡ p))
-    → applyAll a (push a p) ≡ b → turnFor (suc f) a j n ≡ push a p ++ turnFor f b j n
-unfolding turnFor entryOpen turnPlace _&&_
-turn-steps f a b j n p w t = go (eqb? (cell a j) 0) (eqb? (ringBehind a j) n) w ∙ ap (λ c. push a p ++ turnFor f c j n) t
-  where
-    go : {q c : Bool} → Eqb (cell a j) 0 q → Eqb (ringBehind a j) n c
-        → ((cell a j ≡ suc (cell a j - 1)) × (p ≡ j)) ⊎ ((cell a j ≡ 0) × (ringBehind a j ≢ n) × (seek (suc (ringBehind a j)) a ≡ p))
-        → elim (q && c) as (λ z. List Move) [
-          | true ↦ []
-          | false ↦ push a (elim q as (λ z. ℕ) [ true ↦ seek (suc (ringBehind a j)) a | false ↦ j ]) ++ turnFor f (applyAll a (push a (elim q as (λ z. ℕ) [ true ↦ seek (suc (ringBehind a j)) a | false ↦ j ]))) j n
-        ]
-        ≡ push a p ++ turnFor f (applyAll a (push a p)) j n
-    go (same e) c (inl v) = absurd (omega (arith, v .0))
-    go (same e) (same k) (inr v) = absurd (v .1 k)
-    go (same e) (other k) (inr v) = ap (λ i. push a i ++ turnFor f (applyAll a (push a i)) j n) (v .2)
-    go (other e) c (inl v) = ap (λ i. push a i ++ turnFor f (applyAll a (push a i)) j n) (sym (v .1))
-    go (other e) c (inr v) = absurd (e (v .0))
+-- otherwise one push is made
+turn-steps : (f : ℕ) (a b : Arrangement) (j n : ℕ) → T (not (entryOpen a j n)) → Runs 4 (push a (turnPlace a j)) a b → turnFor (suc f) a j n ≡ push a (turnPlace a j) ++ turnFor f b j n
+unfolding turnFor
+turn-steps f a b j n t r = if-false (entryOpen a j n) [] _ t ∙ ap (λ c. push a (turnPlace a j) ++ turnFor f c j n) (runs-applied r)
 
--- what entering needs: place j empty and robot n the first behind it
+-- the written moves open the place
 Turns : ℕ → ℕ → ℕ → Arrangement → Type 0
 Turns f j n a = (b : Arrangement) × Runs 4 (turnFor f a j n) a b × (cell b j ≡ 0) × (ringBehind b j ≡ n)
 
@@ -61,20 +47,20 @@ turn-loop : (f j n : ℕ) (a : Arrangement) → j < length a → Distinct a → 
 unfolding Turns
 turn-loop zero j n a h d nm g E m = go (lower j n a h d g nm E)
   where
-    go : ((cell a j ≡ 0) × (ringBehind a j ≡ n)) ⊎ Lower j n a → Turns zero j n a
-    go (inl s) = (a, rw (turn-stays zero a j n (s .0) (s .1)) done, s .0, s .1)
+    go : Open j n a ⊎ Lower j n a → Turns zero j n a
+    go (inl s) = (a, rw (turn-stays zero a j n s) done, s .0, s .1)
     go (inr s) = absurd (omega (arith, s .fewer))
 turn-loop (suc f) j n a h d nm g E m = go (lower j n a h d g nm E) (λ b. turn-loop f j n b)
   where
-    go : ((cell a j ≡ 0) × (ringBehind a j ≡ n)) ⊎ Lower j n a
+    go : Open j n a ⊎ Lower j n a
         → ((b : Arrangement) → j < length b → Distinct b → Named b → length (order b) < length b → Early n (turn (suc j) b) → after n (turn (suc j) b) ≤ f → Turns f j n b)
         → Turns (suc f) j n a
-    go (inl s) ih = (a, rw (turn-stays (suc f) a j n (s .0) (s .1)) done, s .0, s .1)
+    go (inl s) ih = (a, rw (turn-stays (suc f) a j n s) done, s .0, s .1)
     go (inr s) ih =
         let r = s .runs in
         let l = runs-length r in
         let t = ih (s .to) (omega arith) (runs-distinct r d) (runs-named r nm) (omega (arith, runs-count r)) (s .early) (omega (arith, s .fewer)) in
-        (t .0, rw (turn-steps f a (s .to) j n (s .place) (s .why) (runs-applied r)) (runs-append r (t .1)), t .2, t .3)
+        (t .0, rw (turn-steps f a (s .to) j n (s .shut) r) (runs-append r (t .1)), t .2, t .3)
 
 -- from the named robot on place j: it is pushed first
 turn-first : (f j n : ℕ) (a : Arrangement) → j < length a → Distinct a → Named a → length (order a) < length a → cell a j ≡ suc n → spread (pushed (opened j a)) < f → Turns f j n a
@@ -85,9 +71,10 @@ turn-first (suc f) j n a h d nm g e m = go (push-off j n a h g e)
     go : (b : Arrangement) × Runs 4 (push a j) a b × (turn (suc j) b ≡ suc n ∷ pushed (opened j a)) × (length (order (opened j a)) < length (opened j a)) → Turns (suc f) j n a
     go (b, r, t, c) =
         let l = runs-length r in
+        let p : Runs 4 (push a (turnPlace a j)) a b = rw (place-on a j n e) r in
         let E : Early n (turn (suc j) b) = rw t (at-once (omega (arith, length-pushed (opened j a)))) in
         let u = turn-loop f j n b (omega arith) (runs-distinct r d) (runs-named r nm) (omega (arith, runs-count r)) E (omega (arith, ap (after n) t ∙ after-here n (pushed (opened j a)))) in
-        (u .0, rw (turn-steps f a b j n j (inl (omega arith, refl)) (runs-applied r)) (runs-append r (u .1)), u .2, u .3)
+        (u .0, rw (turn-steps f a b j n (shut-on a j n n e) p) (runs-append p (u .1)), u .2, u .3)
 
 -- ---- the moves and the test
 
@@ -135,7 +122,7 @@ ring-enter a j n h d nm g t = go (eqb? (length (order a)) 0) t
         (omega (arith, after-le n (turn (suc j) a), rw (count-turn (suc j) a) at b, most, mul-suc m (length (order a))))
 
     go : {q : Bool} → Eqb (length (order a)) 0 q → T (elim q [ true ↦ eqb n 255 | false ↦ member n (order a) ]) → Turns (m * m) j n a
-    go (same z) t = let s = ring-empty a j h z in let k = s .1 ∙ sym (eqb→eq n 255 t) in (a, rw (turn-stays (m * m) a j n (s .0) k) done, s .0, k)
+    go (same z) t = let s = ring-empty a j h z in let k = s .1 ∙ sym (eqb→eq n 255 t) in (a, rw (turn-stays (m * m) a j n (s .0, k)) done, s .0, k)
     go (other z) t = let s = member→cell a n t in there (s .0) (s .1) (ℕ-discrete (s .0) j)
 
 -- where a reachable arrangement has j empty and the named robot behind it, a robot may enter

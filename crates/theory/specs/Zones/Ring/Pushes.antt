@@ -1,17 +1,18 @@
 -- Rings: each push of entering lowers the measure.
 use mathlib.Core.Path.{_≡_, refl, sym, ap, _∙_}
 use mathlib.Core.Logic.{_≢_, _⊎_, inl, inr}
+use mathlib.Core.Bool.{not}
 use mathlib.Core.List.{_∷_, _++_, [], append-nil, append-assoc}
 use Prim.Native.Nat.{ℕ, suc, zero, _<_, _+_, _-_}
 use native.Mathlib.Decide.{ℕ-discrete}
 use native.Mathlib.Omega.{arith}
 use lib.ListN.{replicate, length, length-append, length-replicate}
-use lib.Dec.{eqb}
+use lib.Dec.{T, eqb, eqb→eq, not-T}
 use Rattle.spec.specs.Arrangement.{Arrangement, lastNamed, order, cell, seek}
 use Rattle.spec.specs.Terms.{Runs, Distinct, Named}
-use Rattle.spec.specs.Ring.{push, opened, wrap, ringBehind}
+use Rattle.spec.specs.Ring.{push, opened, wrap, ringBehind, entryOpen, turnPlace}
 use Rattle.theory.specs.Basics.Lists.{Each, _&&&_, none, each-append}
-use Rattle.theory.specs.Basics.Tests.{if-true, if-false, eq→eqb, ne→eqb}
+use Rattle.theory.specs.Basics.Tests.{if-true, if-false, eq→eqb, ne→eqb, and-left, and-right}
 use Rattle.theory.specs.Zones.Arrangements.{seek-robot, not-under, not-over}
 use Rattle.theory.specs.Zones.Moves.{runs-length}
 use Rattle.theory.specs.Zones.Hall.Places.{empty-snoc, order-none}
@@ -126,12 +127,35 @@ module _ (j : ℕ) (a : Arrangement) (h : j < length a) (d : Distinct a) (g : le
 
 -- ---- one push lowers the measure
 
--- one push that lowers the measure
+-- what entering needs: place j is empty and robot n the first behind it
+abbrev pub Open : ℕ → ℕ → Arrangement → Type 0
+Open j n a = (cell a j ≡ 0) × (ringBehind a j ≡ n)
+
+-- the robot on j is pushed
+pub place-on : (a : Arrangement) (j x : ℕ) → cell a j ≡ suc x → turnPlace a j ≡ j
+unfolding turnPlace
+place-on a j x e = if-false (eqb (cell a j) 0) (seek (suc (ringBehind a j)) a) j (ne→eqb (cell a j) 0 (λ z. omega arith))
+
+-- or if j is empty the first behind it
+place-off : (a : Arrangement) (j : ℕ) → cell a j ≡ 0 → turnPlace a j ≡ seek (suc (ringBehind a j)) a
+unfolding turnPlace
+place-off a j e = if-true (eqb (cell a j) 0) (seek (suc (ringBehind a j)) a) j (eq→eqb (cell a j) 0 e)
+
+-- a taken place is not open
+pub shut-on : (a : Arrangement) (j n x : ℕ) → cell a j ≡ suc x → T (not (entryOpen a j n))
+unfolding entryOpen
+shut-on a j n x e = not-T (entryOpen a j n) (λ t. omega (arith, eqb→eq (cell a j) 0 (and-left (eqb (cell a j) 0) (eqb (ringBehind a j) n) t)))
+
+-- nor is one with another robot behind it
+shut-off : (a : Arrangement) (j n : ℕ) → ringBehind a j ≢ n → T (not (entryOpen a j n))
+unfolding entryOpen
+shut-off a j n k = not-T (entryOpen a j n) (λ t. k (eqb→eq (ringBehind a j) n (and-right (eqb (cell a j) 0) (eqb (ringBehind a j) n) t)))
+
+-- the place is not open yet, and the rule's next push lowers the measure
 pub record Lower (j n : ℕ) (a : Arrangement) : Type 0 where
-  pub place : ℕ
-  pub why : ((cell a j ≡ suc (cell a j - 1)) × (place ≡ j)) ⊎ ((cell a j ≡ 0) × (ringBehind a j ≢ n) × (seek (suc (ringBehind a j)) a ≡ place))
+  pub shut : T (not (entryOpen a j n))
   pub to : Arrangement
-  pub runs : Runs 4 (push a place) a to
+  pub runs : Runs 4 (push a (turnPlace a j)) a to
   pub early : Early n (turn (suc j) to)
   pub fewer : after n (turn (suc j) to) < after n (turn (suc j) a)
 
@@ -158,10 +182,9 @@ module _ (j n : ℕ) (a : Arrangement) (h : j < length a) (d : Distinct a) (g : 
 
       go : (b : Arrangement) × Runs 4 (push a j) a b × (turn (suc j) b ≡ suc x ∷ pushed w) × (length (order w) < length w) → Lower j n a
       go (b, r, t, c) = record {
-        place = j;
-        why = inl (omega arith, refl);
+        shut = shut-on a j n x e;
         to = b;
-        runs = r;
+        runs = rw (place-on a j x e) r;
         early = rw t (later (early-pushed w x c E′));
         fewer = rw (t, seen′, after-later n (suc x) (pushed w) (λ z. x≢n (omega arith))) (after-pushed n w x E′);
       }
@@ -179,19 +202,18 @@ module _ (j n : ℕ) (a : Arrangement) (h : j < length a) (d : Distinct a) (g : 
           let x≢n : x ≢ n = λ z. k (l ∙ z) in
           let E′ = rw y at E in
           record {
-            place = spot j a h d g e u x i w;
-            why = inr (e, k, ap (λ z. seek (suc z) a) l ∙ spot-is j a h d g e u x i w);
+            shut = shut-off a j n k;
             to = s .0;
-            runs = s .1;
+            runs = rw (place-off a j e ∙ ap (λ z. seek (suc z) a) l ∙ spot-is j a h d g e u x i w) (s .1);
             early = rw (s .2) (early-step u x (replicate i 0) x≢n (early-none i) E′);
             fewer = rw (s .2, y) (after-step n u x (replicate i 0) x≢n (early-none i) E′);
           }
 
   -- so either entering may begin or one push lowers the measure
-  pub lower : Named a → Early n (turn (suc j) a) → ((cell a j ≡ 0) × (ringBehind a j ≡ n)) ⊎ Lower j n a
+  pub lower : Named a → Early n (turn (suc j) a) → Open j n a ⊎ Lower j n a
   lower nm E = go (cell a j) refl (ℕ-discrete (ringBehind a j) n)
     where
-      go : (c : ℕ) → cell a j ≡ c → Dec (ringBehind a j ≡ n) → ((cell a j ≡ 0) × (ringBehind a j ≡ n)) ⊎ Lower j n a
+      go : (c : ℕ) → cell a j ≡ c → Dec (ringBehind a j ≡ n) → Open j n a ⊎ Lower j n a
       go zero e (yes k) = inl (e, k)
       go zero e (no k) = inr (lower-off e k nm E)
       go (suc x) e k = inr (lower-on x e E)
