@@ -10,7 +10,7 @@ use lib.Seq.{ext-getD, getD-set-same, getD-set-other}
 use Rattle.spec.specs.Arrangement.{Arrangement, Move, mv, apply, applyAll}
 use Rattle.spec.specs.State.{State, cellOf, robotOn, moved, movedAll, arrangementOf, acrossMove, across}
 use Rattle.theory.specs.Basics.Lists.{getD-map}
-use Rattle.theory.specs.Maps.State.{cell-of, cell-none}
+use Rattle.theory.specs.Maps.Cells.{cell-of, cell-none}
 use Rattle.motion.specs.World.{World, made, madeAll, state-is, robots-length}
 use Rattle.motion.specs.Across.{across-cons, arrangement-length, arrangement-at}
 

@@ -59,18 +59,18 @@ pub fn standing(starts: [u8; 64], k: usize) -> State
 pub fn moved(s: State, r: Robot, from: Vertex, to: Vertex) -> State
     ensures { λ t. ⌜ stateOf t ≡ movedBy (stateOf s) (mv (r .0) (from .0) (to .0)) ⌝ }
 {
-    let f = from.0 as usize;
-    let d = to.0 as usize;
-    let i = r.0 as usize;
+    let left = from.0 as usize;
+    let taken = to.0 as usize;
+    let robot = r.0 as usize;
     let mut t = s;
-    if f < 128 {
-        t.robots[f] = Robot(255);
+    if left < 128 {
+        t.robots[left] = Robot(255);
     }
-    if d < 128 {
-        t.robots[d] = r;
+    if taken < 128 {
+        t.robots[taken] = r;
     }
-    if i < 64 {
-        t.vertices[i] = to;
+    if robot < 64 {
+        t.vertices[robot] = to;
     }
     t
 }

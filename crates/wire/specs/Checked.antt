@@ -1,15 +1,15 @@
 -- What the check of a file says, and that it says what `payloadOf` does.
-use Prim.Native.Nat.{ℕ, zero, suc, _+_, _-_, _*_, _/_, _%_, _≤_, _<_}
-use mathlib.Core.Path.{_≡_, refl, ap, sym, _∙_}
+use Prim.Native.Nat.{ℕ, suc, _+_, _-_, _*_, _/_, _%_, _≤_, _<_}
+use mathlib.Core.Path.{_≡_, refl, ap, sym, subst, _∙_}
 use mathlib.Core.Bool.{Bool, true, false}
-use mathlib.Core.List.{List, [], _∷_, _++_}
-use lib.ListN.{length, getD, take, drop}
+use mathlib.Core.List.{List, [], _++_}
+use lib.ListN.{length, take, drop}
 use lib.Seq.{drop-drop, take-take, take-add}
-use lib.Dec.{eqb, leb}
+use lib.Dec.{eqb}
 use borrow.Author.Tests.{eqb-true, eqb-false, eq-eqb, ne-eqb, le-leb, lt-leb}
 use native.Mathlib.Omega.{arith}
-use Rattle.spec.specs.Outcome.{Outcome, ok, refuse, _>>_, check, _&&_, all}
-use Rattle.spec.specs.Wire.{checksum, word, headOk, filled, fillOk, payloadFrom, payloadOf}
+use Rattle.spec.specs.Outcome.{Outcome, ok, refuse, _>>_, check, _&&_}
+use Rattle.spec.specs.Wire.{word, headOk, filled, fillOk, payloadFrom, payloadOf}
 use Rattle.wire.specs.Block.{blockAt, sumOk, block-word, block-part, fill-filled, filled-le, filled-some, filled-full}
 use Rattle.wire.specs.Payload.{payload, chunk}
 use Rattle.wire.specs.declared.Checked.{Checked}
@@ -38,9 +38,21 @@ Held limit f (Checksum i) = i < limit
 Held limit f (Head i) = i < limit
 Held limit f (Fill i) = i < limit
 
+-- ---- what callers cite where a check has come out as `s`
+
+-- the definition comes out so too
+pub read-as : (base kind limit : ℕ) (f : List ℕ) (r s : Checked) → checkedOf base f r ≡ payloadOf base kind limit f → r ≡ s
+    → payloadOf base kind limit f ≡ checkedOf base f s
+read-as base kind limit f r s e z = sym e ∙ ap (checkedOf base f) z
+
+-- and the case's facts hold
+pub held-as : (limit : ℕ) (f : List ℕ) (r s : Checked) → Held limit f r → r ≡ s → Held limit f s
+held-as limit f r s h z = subst (λ (x : Checked). Held limit f x) z h
+
 -- ---- one block
 
 module _ (base kind i n : ℕ) (rest done : List ℕ) (more : i < n) where
+  -- the definition, at one block
   one : payloadFrom base kind i (n - i) rest done
       ≡ (check (sumOk (take 512 rest)) (base + 2) i
       >> (check (headOk kind i (take 512 rest)) (base + 3) i
@@ -171,10 +183,11 @@ module _ (kind limit : ℕ) (f : List ℕ) (n i len : ℕ) (g : Going kind limit
 
   module _ (h : i < n) (w : ℕ) (is : w ≡ word f (i * 512 + 4)) (s : sumOk (blockAt f (i * 512)) ≡ true)
       (t : headOk kind i (blockAt f (i * 512)) ≡ true) (u : fillOk (eqb (i + 1) n) (blockAt f (i * 512)) ≡ true) where
+    -- the fill of a good block is allowed
     allowed : filled (eqb (i + 1) n) w ≡ true
     allowed = rw is (rw (block-word f (i * 512) 4 (omega arith)) at (fill-filled (eqb (i + 1) n) (blockAt f (i * 512)) u))
 
-    -- the fill of a good block is 1 to 504
+    -- so at most 504
     pub good-le : w ≤ 504
     good-le = filled-le (eqb (i + 1) n) w allowed
 
@@ -182,6 +195,7 @@ module _ (kind limit : ℕ) (f : List ℕ) (n i len : ℕ) (g : Going kind limit
     good-full : i + 1 < n → w ≡ 504
     good-full k = let z : eqb (i + 1) n ≡ false = ne-eqb (i + 1) n (λ (e : i + 1 ≡ n). omega (arith, e)) in filled-full w (rw z at allowed)
 
+    -- the definition goes on to the next block
     next : (base : ℕ) → payloadFrom base kind i (n - i) (drop (i * 512) f) (take len (payload f))
         ≡ payloadFrom base kind (i + 1) (n - (i + 1)) (drop ((i + 1) * 512) f) (take (len + w) (payload f))
     next base =

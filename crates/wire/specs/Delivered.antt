@@ -1,20 +1,18 @@
 -- What delivering an answer gives: document 01's 61, then 60, else the file and zeros.
-use Prim.Native.Nat.{ℕ, zero, suc, _+_, _-_, _*_, _/_, _%_, _≤_, _<_}
+use Prim.Native.Nat.{ℕ, _+_, _-_, _*_, _/_, _≤_, _<_}
 use mathlib.Core.Path.{_≡_, refl, ap, sym, _∙_}
-use mathlib.Core.Logic.{_⊎_, inl, inr, ⊎-elim}
-use mathlib.Core.Bool.{Bool, true, false}
-use mathlib.Core.List.{List, [], _∷_, _++_}
-use lib.ListN.{length, getD, take, drop, replicate, length-append, length-replicate}
+use mathlib.Core.Logic.{⊎-elim}
+use mathlib.Core.List.{List, _++_}
+use lib.ListN.{length, take, replicate, length-append, length-replicate}
 use lib.Seq.{length-take-le, take-append-le}
-use lib.Dec.{leb}
 use borrow.Author.Tests.{le-leb, lt-leb}
 use native.Mathlib.Omega.{arith}
-use Rattle.spec.specs.Outcome.{Outcome, ok, refuse, _>>_, check}
+use Rattle.spec.specs.Outcome.{ok, refuse, _>>_, check}
 use Rattle.spec.specs.Wire.{fileOf}
 use Rattle.spec.specs.Services.{Answer, fits, answerOf}
 use Rattle.wire.specs.Payload.{payload, payload-length, lt-or-ge}
-use Rattle.wire.specs.Laid.{laidAll, laid-length, laid-append, laid-count-last, laid-payload}
-use Rattle.wire.specs.Sealed.{upTo, file-up, up-length}
+use Rattle.wire.specs.Laid.{laidAll, laid-length, laid-count-last, laid-payload}
+use Rattle.wire.specs.Sealed.{file-up, up-length}
 use Rattle.wire.specs.declared.Delivered.{Delivered}
 
 -- the answer that a returned pair and a buffer are
@@ -31,18 +29,21 @@ deliveredOf kind limit len o = answerOf (length o) (fits kind limit (length o) (
 
 -- ---- the payload that stands in a buffer
 
+-- it is `len` bytes
 pub standing-length : (len : ℕ) (o : List ℕ) → length (standing len o) ≡ len
 unfolding standing
 standing-length len o =
     let r : length {A = ℕ} (replicate len 0) ≡ len = length-replicate len 0 in
     length-take-le len (payload o ++ replicate len 0) (omega (arith, length-append (payload o) (replicate len 0)))
 
+-- where there is room it is the first `len` bytes of the payload
 pub standing-is : (len : ℕ) (o : List ℕ) → (len + 503) / 504 * 512 ≤ length o → standing len o ≡ take len (payload o)
 unfolding standing
 standing-is len o h = take-append-le len (payload o) (replicate len 0) (omega (arith, payload-length o))
 
--- ---- the three ways out
+-- ---- the three ways out: 61, 60, the file
 
+-- how long the file of a payload is
 pub file-length : (kind : ℕ) (p : List ℕ) → length (fileOf kind p) ≡ (length p + 503) / 504 * 512
 file-length kind p = ap length (file-up kind p) ∙ up-length kind p ((length p + 503) / 504)
 
@@ -63,15 +64,18 @@ module _ (kind limit room : ℕ) (p : List ℕ) where
   fits-whole h g = rw (le-leb (length p) (504 * limit) h, le-leb (length (fileOf kind p)) room (omega (arith, file-length kind p)))
 
 module _ (kind limit len : ℕ) (o : List ℕ) where
+  -- 61, with the buffer zeroed
   pub delivered-over : 504 * limit < len → deliveredOf kind limit len o ≡ record { number = 61; value = 0; buffer = replicate (length o) 0 }
   unfolding deliveredOf answerOf
   delivered-over h = let l = standing-length len o in ap (answerOf (length o)) (fits-over kind limit (length o) (standing len o) (omega arith))
 
+  -- 60, with the buffer zeroed
   pub delivered-short : len ≤ 504 * limit → length o < (len + 503) / 504 * 512
       → deliveredOf kind limit len o ≡ record { number = 60; value = 0; buffer = replicate (length o) 0 }
   unfolding deliveredOf answerOf
   delivered-short h g = let l = standing-length len o in ap (answerOf (length o)) (fits-short kind limit (length o) (standing len o) (omega arith) (omega arith))
 
+  -- the file, with zeros behind it
   pub delivered-whole : len ≤ 504 * limit → (len + 503) / 504 * 512 ≤ length o
       → deliveredOf kind limit len o
       ≡ record { number = 0; value = (len + 503) / 504 * 512; buffer = fileOf kind (take len (payload o)) ++ replicate (length o - (len + 503) / 504 * 512) 0 }

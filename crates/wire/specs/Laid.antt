@@ -1,9 +1,9 @@
 -- A payload's bytes laid to their places in a buffer; what falls past the buffer's end is lost.
-use Prim.Native.Nat.{ℕ, zero, suc, _+_, _-_, _*_, _/_, _%_, _≤_, _<_}
+use Prim.Native.Nat.{ℕ, zero, suc, _+_, _*_, _/_, _≤_, _<_}
 use mathlib.Core.Path.{_≡_, refl, ap, sym, _∙_}
 use mathlib.Core.List.{List, [], _∷_, _++_}
-use lib.ListN.{length, getD, take, drop, set, length-set}
-use lib.Seq.{set-out, set-comm, getD-set-same, getD-set-other, getD-take, ext-getD}
+use lib.ListN.{length, getD, take, set, length-set}
+use lib.Seq.{set-out, set-comm, getD-set-same, getD-set-other, ext-getD}
 use native.Mathlib.Omega.{arith}
 use Rattle.wire.specs.Payload.{payload, placeOf, held-length, held-byte}
 

@@ -1,12 +1,9 @@
--- Blocks that are made in place.
-use Prim.Native.Nat.{ℕ, zero, suc, _+_, _-_, _*_, _/_, _%_, _≤_, _<_}
+-- A block that is made in place.
+use Prim.Native.Nat.{ℕ, zero, suc, _+_, _-_, _/_, _%_, _≤_, _<_}
 use mathlib.Core.Path.{_≡_, refl, ap, sym, _∙_}
-use mathlib.Core.Logic.{_⊎_, inl, inr, ⊎-elim}
-use mathlib.Core.Bool.{Bool, true, false}
 use mathlib.Core.List.{List, [], _∷_, _++_, append-assoc, append-nil}
-use lib.ListN.{length, getD, take, drop, set, replicate, length-append, length-take, length-drop, length-replicate, List·getD-append, take-append-drop, drop-of-length-le}
-use lib.Seq.{drop-cons, drop-drop, take-take, getD-drop, getD-take, getD-append-add, take-append-add, drop-append-add, length-take-le, set-at, set-out, sets, sets-eq, take-at, drop-at, drop-length}
-use lib.Dec.{eqb, ltb, leb}
+use lib.ListN.{length, getD, take, drop, set, replicate, length-append, length-drop, length-replicate, take-append-drop, drop-of-length-le}
+use lib.Seq.{drop-cons, take-append-add, length-take-le, set-at, sets-eq, take-at, drop-length}
 use native.Mathlib.Numerals.{add-one}
 use native.Mathlib.Omega.{arith}
 use Rattle.spec.specs.Outcome.{u16}
@@ -16,13 +13,16 @@ use Rattle.spec.specs.Wire.{checksum, blockOf}
 abbrev pub cleared : List ℕ → ℕ → ℕ → List ℕ
 cleared l from o = take from l ++ replicate (o - from) 0 ++ drop o l
 
+-- one more zero behind zeros
 rep-snoc : (n : ℕ) (ys : List ℕ) → replicate n 0 ++ (0 ∷ ys) ≡ replicate (suc n) 0 ++ ys
 rep-snoc zero ys = refl
 rep-snoc (suc n) ys = ap (λ (l : List ℕ). 0 ∷ l) (rep-snoc n ys)
 
+-- nothing cleared
 pub cleared-none : (l : List ℕ) (from : ℕ) → l ≡ cleared l from from
 cleared-none l from = let e : from - from ≡ 0 = omega arith in rw (e, append-nil (take from l), take-append-drop from l)
 
+-- one more byte cleared
 pub cleared-more : (l : List ℕ) (from o : ℕ) → from ≤ o → o < length l → set (cleared l from o) o 0 ≡ cleared l from (o + 1)
 cleared-more l from o h p =
     let s : o + 1 - from ≡ suc (o - from) = omega arith in
@@ -39,6 +39,7 @@ cleared-more l from o h p =
       ← append-assoc (take from l) (replicate (suc (o - from)) 0) (drop (suc o) l),
     )
 
+-- clearing keeps the length
 pub cleared-length : (l : List ℕ) (from o : ℕ) → from ≤ o → o ≤ length l → length (cleared l from o) ≡ length l
 cleared-length l from o h p =
     simp (length-append, length-replicate, length-drop, length-take-le from l (omega arith)) (omega arith)
@@ -51,17 +52,21 @@ cleared-all l = let e : length l - 0 ≡ length l = omega arith in rw (e, drop-l
 unfoldable pub bodyOf : ℕ → ℕ → List ℕ → List ℕ
 bodyOf kind i part = (kind ∷ 0 ∷ u16 i) ++ u16 (length part) ++ part ++ replicate (504 - length part) 0
 
+-- the six bytes of a head written over a list
 abbrev pub headed : List ℕ → ℕ → ℕ → ℕ → List ℕ
 headed l kind i fill =
     set (set (set (set (set (set l 0 kind) 1 0) 2 (i / 256 % 256)) 3 (i % 256)) 4 (fill / 256 % 256)) 5 (fill % 256)
 
+-- they are a list before the rest
 headed-is : (l : List ℕ) (kind i fill : ℕ) → length l ≡ 512
     → headed l kind i fill ≡ (kind ∷ 0 ∷ i / 256 % 256 ∷ i % 256 ∷ fill / 256 % 256 ∷ fill % 256 ∷ []) ++ drop 6 l
 headed-is l kind i fill h = sets-eq (kind ∷ 0 ∷ i / 256 % 256 ∷ i % 256 ∷ fill / 256 % 256 ∷ fill % 256 ∷ []) l 0 (omega arith)
 
+-- how long the payload part is
 part-length : (l : List ℕ) (fill : ℕ) → length l ≡ 512 → fill ≤ 504 → length (take fill (drop 6 l)) ≡ fill
 part-length l fill h p = length-take-le fill (drop 6 l) (simp length-drop (omega arith))
 
+-- how long the body is
 body-length : (l : List ℕ) (kind i fill : ℕ) → length l ≡ 512 → fill ≤ 504 → length (bodyOf kind i (take fill (drop 6 l))) ≡ 510
 unfolding bodyOf u16
 body-length l kind i fill h p =
@@ -69,6 +74,7 @@ body-length l kind i fill h p =
     let r : length {A = ℕ} (replicate (504 - length (take fill (drop 6 l))) 0) ≡ 504 - length (take fill (drop 6 l)) = length-replicate (504 - length (take fill (drop 6 l))) 0 in
     omega (arith, length-append (take fill (drop 6 l)) (replicate (504 - length (take fill (drop 6 l))) 0))
 
+-- head and padding written make the body
 middle : (l : List ℕ) (kind i fill : ℕ) → length l ≡ 512 → fill ≤ 504
     → cleared (headed l kind i fill) (6 + fill) 510 ≡ bodyOf kind i (take fill (drop 6 l)) ++ drop 504 (drop 6 l)
 unfolding bodyOf u16
@@ -78,6 +84,7 @@ middle l kind i fill h p =
     (ap (λ (x : List ℕ). x ++ replicate (504 - fill) 0 ++ drop 504 (drop 6 l))
     (take-append-add (kind ∷ 0 ∷ i / 256 % 256 ∷ i % 256 ∷ fill / 256 % 256 ∷ fill % 256 ∷ []) (drop 6 l) fill))
 
+-- the checksum written behind the body
 put-sum : (b t : List ℕ) (c : ℕ) → length b ≡ 510 → length (b ++ t) ≡ 512 → c ≡ checksum b
     → set (set (b ++ t) 510 (c / 256 % 256)) 511 (c % 256) ≡ b ++ u16 (checksum b)
 unfolding u16
@@ -86,10 +93,12 @@ put-sum b t c n k z =
     sets-eq (c / 256 % 256 ∷ c % 256 ∷ []) (b ++ t) 510 (omega arith)
     ∙ rw (take-at b t 510 n, q, append-nil (b ++ (c / 256 % 256 ∷ c % 256 ∷ [])), z)
 
+-- a block is its body and the checksum
 block-is : (kind i : ℕ) (part : List ℕ) → blockOf kind i part ≡ bodyOf kind i part ++ u16 (checksum (bodyOf kind i part))
 unfolding blockOf bodyOf
 block-is kind i part = refl
 
+-- head, padding and checksum written make the block
 pub sealed : (l m : List ℕ) (kind i fill c : ℕ) → length l ≡ 512 → fill ≤ 504 → m ≡ cleared (headed l kind i fill) (6 + fill) 510
     → c ≡ checksum (take 510 (drop 0 m))
     → set (set m 510 (c / 256 % 256)) 511 (c % 256) ≡ blockOf kind i (take fill (drop 6 l))
@@ -103,6 +112,7 @@ sealed l m kind i fill c h p e s =
     ap (λ (x : List ℕ). set (set x 510 (c / 256 % 256)) 511 (c % 256)) w
     ∙ put-sum b t c n k z ∙ sym (block-is kind i (take fill (drop 6 l)))
 
+-- how long a block is
 pub block-length : (kind i : ℕ) (part : List ℕ) → length part ≤ 504 → length (blockOf kind i part) ≡ 512
 unfolding bodyOf u16
 block-length kind i part h =

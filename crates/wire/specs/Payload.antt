@@ -3,8 +3,8 @@ use Prim.Native.Nat.{ℕ, zero, suc, _+_, _-_, _*_, _/_, _%_, _≤_, _<_}
 use mathlib.Core.Path.{_≡_, refl, ap, sym, _∙_}
 use mathlib.Core.Logic.{_⊎_, inl, inr, ⊎-elim}
 use mathlib.Core.Bool.{Bool, true, false}
-use mathlib.Core.List.{List, [], _∷_, _++_}
-use lib.ListN.{length, getD, take, drop, length-append, length-take, length-drop, List·getD-append, List·getD-eq-default}
+use mathlib.Core.List.{List, [], _++_}
+use lib.ListN.{length, getD, take, drop, length-append, length-drop, List·getD-append, List·getD-eq-default}
 use lib.Seq.{getD-drop, getD-take, getD-append-add, length-take-le, ext-getD}
 use lib.Dec.{ltb, lit<}
 use borrow.Author.Tests.{ltb-true, ltb-false}

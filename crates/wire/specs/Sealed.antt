@@ -1,30 +1,28 @@
 -- A whole file that is made in place.
-use Prim.Native.Nat.{ℕ, zero, suc, _+_, _-_, _*_, _/_, _%_, _≤_, _<_}
+use Prim.Native.Nat.{ℕ, zero, suc, _+_, _-_, _*_, _/_, _≤_}
 use mathlib.Core.Path.{_≡_, refl, ap, sym, _∙_}
-use mathlib.Core.Logic.{_⊎_, inl, inr, ⊎-elim}
-use mathlib.Core.Bool.{Bool, true, false}
-use mathlib.Core.List.{List, [], _∷_, _++_, append-assoc, append-nil}
-use lib.ListN.{length, getD, take, drop, set, replicate, length-append, length-take, length-drop, length-replicate, List·getD-append, take-append-drop, drop-of-length-le}
-use lib.Seq.{drop-drop, take-take, take-all, getD-drop, getD-take, length-take-le, take-at, drop-at, drop-length, take-length, drop-append-le, take-append-le, ext-getD, take-append-add, drop-append-add}
-use lib.Dec.{eqb, ltb, leb}
-use borrow.Author.Tests.{le-leb, lt-leb}
+use mathlib.Core.Logic.{_⊎_, inl, inr}
+use mathlib.Core.List.{List, [], _++_, append-assoc, append-nil}
+use lib.ListN.{length, take, drop, replicate, length-append, length-take, length-drop}
+use lib.Seq.{drop-drop, take-take, take-all, take-at, drop-at, drop-length}
 use native.Mathlib.Numerals.{add-one}
 use native.Mathlib.Omega.{arith}
-use Rattle.spec.specs.Outcome.{u16}
 use Rattle.spec.specs.Wire.{blockOf, blocksFrom, fileOf}
 use Rattle.wire.specs.Block.{drop-take}
 use Rattle.wire.specs.Payload.{payload, chunk, held-length}
-use Rattle.wire.specs.Made.{bodyOf, block-length}
+use Rattle.wire.specs.Made.{block-length}
 
 -- the first k blocks of a payload
 unfoldable pub upTo : ℕ → List ℕ → ℕ → List ℕ
 upTo kind p zero = []
 upTo kind p (suc k) = upTo kind p k ++ blockOf kind k (take 504 (drop (k * 504) p))
 
+-- one more block
 up-more : (kind : ℕ) (p : List ℕ) (k : ℕ) → upTo kind p (k + 1) ≡ upTo kind p k ++ blockOf kind k (take 504 (drop (k * 504) p))
 unfolding upTo
 up-more kind p k = rw (add-one k)
 
+-- how long they are
 pub up-length : (kind : ℕ) (p : List ℕ) (k : ℕ) → length (upTo kind p k) ≡ k * 512
 unfolding upTo
 up-length kind p zero = refl
@@ -41,6 +39,7 @@ blocks-up kind i (suc left) p =
     sym (append-assoc (upTo kind p i) (blockOf kind i (take 504 (drop (i * 504) p))) (blocksFrom kind p (i + 1) left))
     ∙ rw (← up-more kind p i) (blocks-up kind (i + 1) left p) ∙ ap (upTo kind p) e
 
+-- all the blocks of the definition
 blocks-all : (kind n : ℕ) (p : List ℕ) → blocksFrom kind p 0 n ≡ upTo kind p n
 unfolding upTo
 blocks-all kind n p = let e : 0 + n ≡ n = omega arith in rw e at (blocks-up kind 0 n p)
@@ -50,10 +49,14 @@ pub file-up : (kind : ℕ) (p : List ℕ) → fileOf kind p ≡ upTo kind p ((le
 unfolding fileOf
 file-up kind p = blocks-all kind ((length p + 503) / 504) p
 
+-- ---- the part of a payload in block k, in the buffer where it stands
+
+-- a full part
 part-full : (f : List ℕ) (k len : ℕ) → (k + 1) * 512 ≤ length f → (k + 1) * 504 ≤ len
     → take 504 (drop (k * 504) (take len (payload f))) ≡ take 504 (drop (k * 512 + 6) f)
 part-full f k len h g = rw (drop-take (k * 504) len (payload f), take-take 504 (len - k * 504) (drop (k * 504) (payload f)) (omega arith), chunk f k h)
 
+-- the last part
 part-last : (f : List ℕ) (k len : ℕ) → (k + 1) * 512 ≤ length f → len ≤ (k + 1) * 504 → len ≤ length f / 512 * 504
     → take 504 (drop (k * 504) (take len (payload f))) ≡ take (len - k * 504) (drop (k * 512 + 6) f)
 part-last f k len h g u =
@@ -67,12 +70,16 @@ part-last f k len h g u =
       take-take (len - k * 504) 504 (drop (k * 512 + 6) f) s,
     )
 
+-- either
 pub part-is : (f : List ℕ) (k len fill : ℕ) → (k + 1) * 512 ≤ length f → len ≤ length f / 512 * 504
     → ((fill ≡ len - k * 504) × (len - k * 504 ≤ 504)) ⊎ ((fill ≡ 504) × (504 ≤ len - k * 504))
     → take 504 (drop (k * 504) (take len (payload f))) ≡ take fill (drop (k * 512 + 6) f)
 part-is f k len fill h u (inl w) = part-last f k len h (omega arith) u ∙ ap (λ (x : ℕ). take x (drop (k * 512 + 6) f)) (sym (w .0))
 part-is f k len fill h u (inr w) = part-full f k len h (omega arith) ∙ ap (λ (x : ℕ). take x (drop (k * 512 + 6) f)) (sym (w .0))
 
+-- ---- block after block is finished in the buffer
+
+-- one more block
 pub seal-step : (f m b : List ℕ) (kind k len fill j : ℕ) → j ≡ 512 → fill ≤ 504
     → take 504 (drop (k * 504) (take len (payload f))) ≡ take fill (drop (k * 512 + 6) f)
     → m ≡ upTo kind (take len (payload f)) k ++ drop (k * 512) f
@@ -92,9 +99,11 @@ seal-step f m b kind k len fill j o g e w z =
     ∙ ap (blockOf kind k) (rw (drop-take 6 512 (drop (k * 512) f), take-take fill 506 (drop 6 (drop (k * 512) f)) (omega arith), drop-drop 6 (k * 512) f) (sym e)) in
     rw (t, q, r, up-more kind p k) (sym (append-assoc (upTo kind p k) (blockOf kind k (take 504 (drop (k * 504) p))) (drop ((k + 1) * 512) f)))
 
+-- the buffer keeps its length
 pub up-all : (f : List ℕ) (kind k : ℕ) (p : List ℕ) → k * 512 ≤ length f → length (upTo kind p k ++ drop (k * 512) f) ≡ length f
 up-all f kind k p h = length-append (upTo kind p k) (drop (k * 512) f) ∙ omega (arith, up-length kind p k, length-drop (k * 512) f)
 
+-- the file, with zeros behind it
 pub seal-end : (f m x : List ℕ) (kind len n : ℕ) → len ≤ length f / 512 * 504 → n ≡ (len + 503) / 504
     → m ≡ upTo kind (take len (payload f)) n ++ drop (n * 512) f → length m ≡ length f
     → x ≡ take (n * 512) m ++ replicate (length m - n * 512) 0 ++ drop (length m) m

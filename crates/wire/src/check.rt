@@ -40,14 +40,13 @@ fn head_ok(file: &[u8], at: usize, i: usize, kind: u8) -> bool
 fn fill_allowed(n: usize, last: bool) -> bool
     ensures { λ r. ⌜ r ≡ filled last n ⌝ }
 {
-    if last {
-        if n < 1 {
-            return false;
-        }
-        n <= 504
-    } else {
-        n == 504
+    if !last {
+        return n == 504;
     }
+    if 1 <= n {
+        return n <= 504;
+    }
+    false
 }
 
 // Are the bytes from `from` to before `end` all 0?
@@ -82,19 +81,19 @@ pub fn check_file(file: &[u8], kind: u8, limit: usize) -> Checked
     ensures { λ r. ⌜ ((base : ℕ) → checkedOf base (now (file .entry)) r ≡ payloadOf base kind limit (now (file .entry))) ⌝ }
     ensures { λ r. ⌜ Held limit (now (file .entry)) r ⌝ }
 {
-    let n = file.len() / 512;
+    let count = file.len() / 512;
     if file.len() % 512 != 0 {
         return Checked::Length;
     }
-    if n < 1 {
+    if count < 1 {
         return Checked::Length;
     }
-    if n > limit {
+    if count > limit {
         return Checked::Length;
     }
     let mut i: usize = 0;
     let mut len: usize = 0;
-    while i < n {
+    while i < count {
         let at = i * 512;
         if !sum_ok(file, at) {
             return Checked::Checksum(i);
@@ -102,7 +101,7 @@ pub fn check_file(file: &[u8], kind: u8, limit: usize) -> Checked
         if !head_ok(file, at, i, kind) {
             return Checked::Head(i);
         }
-        if !fill_ok(file, at, i + 1 == n) {
+        if !fill_ok(file, at, i + 1 == count) {
             return Checked::Fill(i);
         }
         len += word_at(file, at + 4);

@@ -1,6 +1,6 @@
 use mathlib.Core.Path.{_≡_, refl, ap, sym, _∙_}
 use native.Mathlib.Numerals.{add-one}
-use Rattle.theory.specs.Maps.State.{cell-of, cell-none}
+use Rattle.theory.specs.Maps.Cells.{cell-of, cell-none}
 use borrow.Author.Needs.{needs}
 use Rattle.motion.proofs.cell_of.Statement.{statement}
 use Rattle.motion.proofs.cell_of.Tie as tie

@@ -1,11 +1,11 @@
+-- `clear`: at each turn, the bytes passed are zero and the others as they were.
 use mathlib.Core.List.{List}
 use Rattle.wire.specs.Made.{cleared, cleared-none, cleared-more}
 use borrow.Author.Needs.{needs}
 use native.Mathlib.Omega.{arith}
-use Prim.Native.Nat.{ℕ, _+_, _-_, _*_, _/_, _%_, _≤_, _<_}
-use mathlib.Core.Path.{_≡_, refl, ap, sym, _∙_}
-use mathlib.Core.Logic.{⊎-elim}
-use lib.ListN.{length, getD, take, drop, set, length-set}
+use Prim.Native.Nat.{ℕ, _-_, _≤_}
+use mathlib.Core.Path.{_≡_, refl, ap, _∙_}
+use lib.ListN.{length, set, length-set}
 use Rattle.wire.proofs.answer.clear.Statement.{statement}
 use Rattle.wire.proofs.answer.clear.Tie as tie
 

@@ -1,6 +1,7 @@
+-- `deliver`: one law for each of 61, 60 and the file.
 use native.Mathlib.Omega.{arith}
-use Prim.Native.Nat.{ℕ, _+_, _*_, _/_}
-use mathlib.Core.Path.{_≡_, ap, sym, _∙_}
+use Prim.Native.Nat.{_+_, _*_, _/_}
+use mathlib.Core.Path.{ap, sym, _∙_}
 use Rattle.wire.specs.Delivered.{answered, delivered-over, delivered-short, delivered-whole}
 use borrow.Author.Needs.{needs}
 use Rattle.wire.proofs.answer.deliver.Statement.{statement}

@@ -1,10 +1,7 @@
+-- `least`: by cases.
 use mathlib.Core.Logic.{inl, inr}
-use borrow.Author.Needs.{needs}
 use native.Mathlib.Omega.{arith}
-use Prim.Native.Nat.{ℕ, _+_, _-_, _*_, _/_, _%_, _≤_, _<_}
-use mathlib.Core.Path.{_≡_, refl, ap, sym, _∙_}
-use mathlib.Core.Logic.{⊎-elim}
-use lib.ListN.{length, getD, take, drop, set, length-set}
+use mathlib.Core.Path.{refl}
 use Rattle.wire.proofs.answer.least.Statement.{statement}
 use Rattle.wire.proofs.answer.least.Tie as tie
 

@@ -1,10 +1,8 @@
+-- `put_byte`: the byte is stored, or its place is past the end.
 use lib.Seq.{set-out}
 use borrow.Author.Needs.{needs}
 use native.Mathlib.Omega.{arith}
-use Prim.Native.Nat.{ℕ, _+_, _-_, _*_, _/_, _%_, _≤_, _<_}
-use mathlib.Core.Path.{_≡_, refl, ap, sym, _∙_}
-use mathlib.Core.Logic.{⊎-elim}
-use lib.ListN.{length, getD, take, drop, set, length-set}
+use mathlib.Core.Path.{sym}
 use Rattle.wire.proofs.answer.put_byte.Statement.{statement}
 use Rattle.wire.proofs.answer.put_byte.Tie as tie
 

@@ -1,9 +1,10 @@
+-- `put_word`: two bytes are laid, or both places are past the end.
 use native.Mathlib.Omega.{arith}
 use Prim.Native.Nat.{ℕ, _+_, _%_}
-use mathlib.Core.Path.{_≡_, ap, sym, _∙_}
+use mathlib.Core.Path.{ap, sym, _∙_}
 use mathlib.Core.List.{List}
 use Rattle.spec.specs.Outcome.{u16}
-use Rattle.wire.specs.Laid.{laid, laidAll, laid-out}
+use Rattle.wire.specs.Laid.{laid, laid-out}
 use borrow.Author.Needs.{needs}
 use Rattle.wire.proofs.answer.put_word.Statement.{statement}
 use Rattle.wire.proofs.answer.put_word.Tie as tie

@@ -1,15 +1,16 @@
+-- `seal`: at each turn, the blocks passed are finished and the others as they were.
 use lib.ListN.{length-drop}
 use lib.Seq.{length-take-le}
 use Rattle.wire.specs.Sealed.{up-all}
-use mathlib.Core.List.{List, _++_}
+use mathlib.Core.List.{_++_}
 use Rattle.wire.specs.Payload.{payload}
 use Rattle.wire.specs.Sealed.{upTo, part-is, seal-step, seal-end}
 use borrow.Author.Needs.{needs}
 use native.Mathlib.Omega.{arith}
-use Prim.Native.Nat.{ℕ, _+_, _-_, _*_, _/_, _%_, _≤_, _<_}
-use mathlib.Core.Path.{_≡_, refl, ap, sym, _∙_}
+use Prim.Native.Nat.{ℕ, _+_, _-_, _*_, _/_, _≤_}
+use mathlib.Core.Path.{_≡_, refl, ap, _∙_}
 use mathlib.Core.Logic.{⊎-elim}
-use lib.ListN.{length, getD, take, drop, set, length-set}
+use lib.ListN.{length, take, drop}
 use Rattle.wire.proofs.answer.seal.Statement.{statement}
 use Rattle.wire.proofs.answer.seal.Tie as tie
 

@@ -1,10 +1,9 @@
+-- `seal_block`: head, padding and checksum make the block (`sealed`).
 use Rattle.wire.specs.Made.{sealed}
 use borrow.Author.Needs.{needs}
 use native.Mathlib.Omega.{arith}
-use Prim.Native.Nat.{ℕ, _+_, _-_, _*_, _/_, _%_, _≤_, _<_}
-use mathlib.Core.Path.{_≡_, refl, ap, sym, _∙_}
-use mathlib.Core.Logic.{⊎-elim}
-use lib.ListN.{length, getD, take, drop, set, length-set}
+use mathlib.Core.Path.{_≡_, _∙_}
+use lib.ListN.{length, length-set}
 use Rattle.wire.proofs.answer.seal_block.Statement.{statement}
 use Rattle.wire.proofs.answer.seal_block.Tie as tie
 

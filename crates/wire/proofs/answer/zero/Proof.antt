@@ -1,10 +1,6 @@
+-- `zero`: the whole buffer is cleared.
 use borrow.Author.Needs.{needs}
-use native.Mathlib.Omega.{arith}
-use Prim.Native.Nat.{ℕ, _-_}
-use mathlib.Core.Path.{_≡_, _∙_}
-use mathlib.Core.List.{append-nil}
-use lib.ListN.{length, replicate}
-use lib.Seq.{drop-length}
+use mathlib.Core.Path.{_∙_}
 use Rattle.wire.specs.Made.{cleared-all}
 use Rattle.wire.proofs.answer.zero.Statement.{statement}
 use Rattle.wire.proofs.answer.zero.Tie as tie

@@ -1,8 +1,9 @@
+-- `check_file`: at each turn, what is left to check gives what the whole file gives (`Going`); one law for each way out.
 use borrow.Author.Needs.{needs}
 use borrow.Author.Tests.{not-true, not-false}
 use native.Mathlib.Omega.{arith}
-use Prim.Native.Nat.{ℕ, _-_, _/_}
-use mathlib.Core.Path.{_≡_, sym, _∙_}
+use Prim.Native.Nat.{_-_, _/_}
+use mathlib.Core.Path.{sym, _∙_}
 use lib.ListN.{length}
 use Rattle.wire.specs.Checked.{Going, size-odd, size-none, size-over, going-start, going-sum, going-head, going-fill, going-end, going-whole, good-le, going-more}
 use Rattle.wire.proofs.check.check_file.Statement.{statement}

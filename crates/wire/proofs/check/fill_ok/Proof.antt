@@ -1,11 +1,9 @@
+-- `fill_ok`: the fill is allowed, so the padding stands in the block.
 use Rattle.spec.specs.Outcome.{_&&_}
 use Rattle.wire.specs.Block.{filled-le, fill-is, block-rest}
 use borrow.Author.Needs.{needs}
 use native.Mathlib.Omega.{arith}
-use Prim.Native.Nat.{ℕ, _+_, _-_, _*_, _/_, _%_, _≤_, _<_}
-use mathlib.Core.Path.{_≡_, refl, ap, sym, _∙_}
-use mathlib.Core.Logic.{⊎-elim}
-use lib.ListN.{length, getD, take, drop, set, length-set}
+use mathlib.Core.Path.{sym, _∙_}
 use Rattle.wire.proofs.check.fill_ok.Statement.{statement}
 use Rattle.wire.proofs.check.fill_ok.Tie as tie
 

@@ -1,12 +1,8 @@
+-- `head_ok`: one return for each of the three tests of the head.
 use borrow.Author.Tests.{eq-eqb, ne-eqb}
 use Rattle.spec.specs.Outcome.{_&&_}
 use Rattle.wire.specs.Block.{head-is}
 use borrow.Author.Needs.{needs}
-use native.Mathlib.Omega.{arith}
-use Prim.Native.Nat.{ℕ, _+_, _-_, _*_, _/_, _%_, _≤_, _<_}
-use mathlib.Core.Path.{_≡_, refl, ap, sym, _∙_}
-use mathlib.Core.Logic.{⊎-elim}
-use lib.ListN.{length, getD, take, drop, set, length-set}
 use Rattle.wire.proofs.check.head_ok.Statement.{statement}
 use Rattle.wire.proofs.check.head_ok.Tie as tie
 

@@ -1,5 +1,6 @@
+-- `sum_ok`: the word and the checksum are those of the block.
 use borrow.Author.Needs.{needs}
-use mathlib.Core.Path.{_≡_, sym, _∙_}
+use mathlib.Core.Path.{sym, _∙_}
 use Rattle.wire.specs.Block.{sum-is}
 use Rattle.wire.proofs.check.sum_ok.Statement.{statement}
 use Rattle.wire.proofs.check.sum_ok.Tie as tie

@@ -1,12 +1,12 @@
+-- `zeros`: at each turn, the test of what is left is the test of the whole.
 use Rattle.spec.specs.Outcome.{all}
 use lib.Dec.{eqb}
 use Rattle.wire.specs.Block.{zeros-more, zeros-not, zeros-none}
 use borrow.Author.Needs.{needs}
 use native.Mathlib.Omega.{arith}
-use Prim.Native.Nat.{ℕ, _+_, _-_, _*_, _/_, _%_, _≤_, _<_}
-use mathlib.Core.Path.{_≡_, refl, ap, sym, _∙_}
-use mathlib.Core.Logic.{⊎-elim}
-use lib.ListN.{length, getD, take, drop, set, length-set}
+use Prim.Native.Nat.{_-_, _≤_}
+use mathlib.Core.Path.{_≡_, refl, sym, _∙_}
+use lib.ListN.{take, drop}
 use Rattle.wire.proofs.check.zeros.Statement.{statement}
 use Rattle.wire.proofs.check.zeros.Tie as tie
 

@@ -1,10 +1,9 @@
-use Rattle.wire.specs.Block.{checksum-zero, checksum-more}
+-- `checksum_at`: the sum is folded by one rest, but for a sum of 0.
 use borrow.Author.Needs.{needs}
 use native.Mathlib.Omega.{arith}
-use Prim.Native.Nat.{ℕ, _+_, _-_, _*_, _/_, _%_, _≤_, _<_}
-use mathlib.Core.Path.{_≡_, refl, ap, sym, _∙_}
-use mathlib.Core.Logic.{⊎-elim}
-use lib.ListN.{length, getD, take, drop, set, length-set}
+use mathlib.Core.Path.{sym}
+use lib.ListN.{take, drop}
+use Rattle.wire.specs.Sum.{checksum-zero, checksum-more}
 use Rattle.wire.proofs.checksum.checksum_at.Statement.{statement}
 use Rattle.wire.proofs.checksum.checksum_at.Tie as tie
 
@@ -14,7 +13,10 @@ total-requires c κs = search needs
 returns : tie.Need-returns
 returns c =
     let a = c .before .before .before .args in
-    sym (checksum-zero (a .file .now) (a .at) (λ i. omega (arith, c .before .before .shared-slice-known .given i)) (sym (c .before .total .ensures) ∙ c .if1 .taken))
+    sym (checksum-zero (take 510 (drop (a .at) (a .file .now))) (c .before .total .result) (c .before .total .ensures .0) (c .if1 .taken))
+
+mul-result : tie.Need-mul-result
+mul-result c = search needs
 
 sub-result : tie.Need-sub-result
 sub-result c = search needs
@@ -25,7 +27,7 @@ sub-result-2 c = search needs
 returns-2 : tie.Need-returns-2
 returns-2 c =
     let a = c .before .before .before .args in
-    sym (checksum-more (a .file .now) (a .at) (c .before .total .result) (λ i. omega (arith, c .before .before .shared-slice-known .given i)) (c .before .total .ensures) (omega arith))
+    sym (checksum-more (take 510 (drop (a .at) (a .file .now))) (c .before .total .result) (c .before .total .ensures .0) (omega arith))
 
 pub checksum-at-spec : {M : Type 1} → statement M
-checksum-at-spec = tie.close (tie.spec total-requires returns sub-result sub-result-2 returns-2)
+checksum-at-spec = tie.close (tie.spec total-requires returns mul-result sub-result sub-result-2 returns-2)

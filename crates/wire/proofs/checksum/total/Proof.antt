@@ -1,50 +1,117 @@
-use Rattle.wire.specs.Sum.{plain-less, plain-none}
-use Rattle.spec.specs.Wire.{word}
-use Rattle.wire.specs.Sum.{plain, plain-more}
+-- `total`: at each turn, what is summed so far with the words still left folds to the sum of all words.
 use borrow.Author.Needs.{needs}
 use native.Mathlib.Omega.{arith}
-use Prim.Native.Nat.{ℕ, _+_, _-_, _*_, _/_, _%_, _≤_, _<_}
-use mathlib.Core.Path.{_≡_, refl, ap, sym, _∙_}
-use mathlib.Core.Logic.{⊎-elim}
-use lib.ListN.{length, getD, take, drop, set, length-set}
+use Prim.Native.Nat.{_+_, _-_, _*_, _%_, _≤_}
+use mathlib.Core.Path.{_≡_, sym, _∙_}
+use lib.ListN.{take, drop}
+use Rattle.spec.specs.Wire.{sumWords}
+use Rattle.wire.specs.Sum.{folded, plain, fold-none, fold-eight, fold-six}
 use Rattle.wire.proofs.checksum.total.Statement.{statement}
 use Rattle.wire.proofs.checksum.total.Tie as tie
 
 abbrev Inv-loop : tie.InvT-loop
-Inv-loop file at s₀ o₀ left₀ s o left =
-    (left ≤ 510) × (left % 2 ≡ 0) × (o + left ≡ at + 510) × (s * 2 ≤ 65535 * (510 - left))
-    × (s + plain (take left (drop o file)) ≡ plain (take 510 (drop at file)))
+Inv-loop file at even₀ odd₀ o₀ even odd o =
+    (o ≤ 504) × (o % 8 ≡ 0) × (even * 8 ≤ 4294967295 * o) × (odd * 8 ≤ 4294967295 * o)
+    × (folded ((even + odd) * 256 + plain (take (510 - o) (drop (at + o) file))) ≡ sumWords (take 510 (drop at file)))
 
 abbrev μ-loop : tie.MeasureT-loop
-μ-loop file at s₀ o₀ left₀ s o left = left
+μ-loop file at even₀ odd₀ o₀ even odd o = 504 - o
 
 loop-holds : tie.Need-loop-holds Inv-loop μ-loop
-loop-holds c = search needs
+loop-holds c =
+    (search needs, search needs, search needs, search needs, fold-none (c .before .args .file .now) (c .before .args .at) (λ i. omega (arith, c .shared-slice-known .given i)))
 
-word-at-requires : tie.Need-word-at-requires Inv-loop μ-loop
-word-at-requires c κs = search needs
+add-little-at : tie.Need-add-little-at Inv-loop μ-loop
+add-little-at c = search needs
 
-add-s : tie.Need-add-s Inv-loop μ-loop
-add-s c = search needs
+little-at-requires : tie.Need-little-at-requires Inv-loop μ-loop
+little-at-requires c κs = search needs
+
+add-even : tie.Need-add-even Inv-loop μ-loop
+add-even c = search needs
+
+add-little-at-2 : tie.Need-add-little-at-2 Inv-loop μ-loop
+add-little-at-2 c = search needs
+
+add-little-at-3 : tie.Need-add-little-at-3 Inv-loop μ-loop
+add-little-at-3 c = search needs
+
+little-at-requires-2 : tie.Need-little-at-requires-2 Inv-loop μ-loop
+little-at-requires-2 c κs = search needs
+
+add-odd : tie.Need-add-odd Inv-loop μ-loop
+add-odd c = search needs
 
 add-o : tie.Need-add-o Inv-loop μ-loop
 add-o c = search needs
-
-sub-left : tie.Need-sub-left Inv-loop μ-loop
-sub-left c = search needs
 
 loop-less : tie.Need-loop-less Inv-loop μ-loop
 loop-less c = search needs
 
 loop-again : tie.Need-loop-again Inv-loop μ-loop
 loop-again c =
-    let a = c .before .before .before .before .args in
-    let o = c .before .before .loop in
-    let e = plain-less (a .file .now) (o .o) (o .left) (omega arith) (omega arith) in
-    (search needs, search needs, search needs, search needs, omega (arith, e, c .word-at .ensures .0))
+    let a = c .before .before .before .before .before .args in
+    let l = c .before .before .before .loop in
+    let p : a .at + l .o + 8 ≡ a .at + (l .o + 8) = omega arith in
+    let n : 510 - l .o - 8 ≡ 510 - (l .o + 8) = omega arith in (
+      search needs,
+      search needs,
+      search needs,
+      search needs,
+      rw (c .before .little-at .ensures .0, c .little-at2 .ensures .0, ← p, ← n)
+          (sym (fold-eight (a .file .now) (l .even) (l .odd) (a .at + l .o) (510 - l .o) (omega arith) (omega arith)) ∙ l .inv .4),
+    )
+
+add-wide : tie.Need-add-wide Inv-loop μ-loop
+add-wide c = search needs
+
+shared-slice-read-wide : tie.Need-shared-slice-read-wide Inv-loop μ-loop
+shared-slice-read-wide c = search needs
+
+wide-requires : tie.Need-wide-requires Inv-loop μ-loop
+wide-requires c κs = search needs
+
+add-wide-2 : tie.Need-add-wide-2 Inv-loop μ-loop
+add-wide-2 c = search needs
+
+shared-slice-read-wide-2 : tie.Need-shared-slice-read-wide-2 Inv-loop μ-loop
+shared-slice-read-wide-2 c = search needs
+
+wide-requires-2 : tie.Need-wide-requires-2 Inv-loop μ-loop
+wide-requires-2 c κs = search needs
+
+add-result : tie.Need-add-result Inv-loop μ-loop
+add-result c = search needs
+
+add-little-at-4 : tie.Need-add-little-at-4 Inv-loop μ-loop
+add-little-at-4 c = search needs
+
+little-at-requires-3 : tie.Need-little-at-requires-3 Inv-loop μ-loop
+little-at-requires-3 c κs = search needs
+
+add-result-2 : tie.Need-add-result-2 Inv-loop μ-loop
+add-result-2 c = search needs
+
+add-result-3 : tie.Need-add-result-3 Inv-loop μ-loop
+add-result-3 c = search needs
+
+mul-result : tie.Need-mul-result Inv-loop μ-loop
+mul-result c = search needs
+
+add-result-4 : tie.Need-add-result-4 Inv-loop μ-loop
+add-result-4 c = search needs
 
 returns : tie.Need-returns Inv-loop μ-loop
-returns c = omega (arith, plain-none (drop (c .before .loop .o) (c .before .before .before .args .file .now)) (c .before .loop .left) (omega arith))
+returns c =
+    let a = c .before .before .before .before .before .before .before .before .args in
+    let l = c .before .before .before .before .before .before .loop in
+    let e : l .o ≡ 504 = omega arith in
+    let p : a .at + 504 + 4 ≡ a .at + 508 = omega arith in
+    let q : a .at + 504 + 5 ≡ a .at + 509 = omega arith in (
+      rw (c .little-at3 .ensures .0, c .before .before .before .wide .ensures .0, c .before .wide2 .ensures .0, ← p, ← q)
+          (sym (fold-six (a .file .now) (l .even + l .odd) (a .at + 504) (omega arith)) ∙ rw e at (l .inv .4)),
+      search needs,
+    )
 
 pub total-spec : {M : Type 1} → statement M
 total-spec =
@@ -53,10 +120,27 @@ total-spec =
     Inv-loop
     μ-loop
     loop-holds
-    word-at-requires
-    add-s
+    add-little-at
+    little-at-requires
+    add-even
+    add-little-at-2
+    add-little-at-3
+    little-at-requires-2
+    add-odd
     add-o
-    sub-left
     loop-less
     loop-again
+    add-wide
+    shared-slice-read-wide
+    wide-requires
+    add-wide-2
+    shared-slice-read-wide-2
+    wide-requires-2
+    add-result
+    add-little-at-4
+    little-at-requires-3
+    add-result-2
+    add-result-3
+    mul-result
+    add-result-4
     returns)

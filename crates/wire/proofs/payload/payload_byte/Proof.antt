@@ -1,3 +1,4 @@
+-- `payload_byte`: the byte at its place, or 0 past the end.
 use native.Mathlib.Omega.{arith}
 use mathlib.Core.Path.{sym}
 use lib.ListN.{List·getD-eq-default}

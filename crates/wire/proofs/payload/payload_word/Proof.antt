@@ -1,3 +1,4 @@
+-- `payload_word`: two bytes make the word, or 0 past the end.
 use native.Mathlib.Omega.{arith}
 use mathlib.Core.Path.{sym}
 use Rattle.wire.specs.Payload.{word-out}

@@ -1,0 +1,15 @@
+#![forbid(unsafe_code)]
+//! Cases for the four services, the laws they must keep, and the comparison
+//! of implementations.
+
+mod case;
+mod changes;
+mod generator;
+mod implementation;
+mod laws;
+mod scene;
+
+pub use case::{Case, Service};
+pub use generator::Generator;
+pub use implementation::{implementations, Implementation};
+pub use laws::{examine, Outcome, Violation};
