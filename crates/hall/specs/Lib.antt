@@ -2,3 +2,4 @@
 pub mod Trips
 pub mod Line
 pub mod Ends
+pub mod Goals
