@@ -2,17 +2,16 @@
 use mathlib.Core.Path.{_≡_, refl, ap, ap₂, sym, _∙_}
 use Prim.Native.Nat.{ℕ, zero, suc, _+_, _-_, _<_, _≤_, min, max}
 use mathlib.Core.Bool.{Bool, true, false}
-use mathlib.Core.List.{List, [], _∷_, _++_, append-nil}
+use mathlib.Core.List.{List, [], _∷_, _++_}
 use native.Mathlib.Numerals.{add-one}
 use native.Mathlib.Omega.{arith}
-use native.Mathlib.Decide.{decLt}
-use lib.ListN.{length, getD, set, take, drop, replicate, length-take, drop-of-length-le}
+use native.Mathlib.Decide.{ℕ-discrete}
+use lib.ListN.{length, getD, take, drop, replicate}
 use lib.Dec.{ltb, eqb}
-use lib.Seq.{slice, slice-cons, slice-empty, length-take-le, take-all, take-suc-set}
+use lib.Seq.{slice, slice-cons, slice-empty, length-take-le, take-all}
 use borrow.Author.Tests.{lt-ltb, le-ltb, eq-eqb, ne-eqb}
 use Rattle.spec.specs.Outcome.{indexOf}
-use Rattle.spec.specs.Arrangement.{Arrangement, order, places}
-use Rattle.spec.specs.Hall.{below, above, lowerThan}
+use Rattle.spec.specs.Hall.{below, above}
 
 -- the goal of the i-th robot, at place p: the first t go below place j, those from the u-th on above it, those between onto it
 unfoldable pub goalOf : ℕ → ℕ → ℕ → ℕ → ℕ → ℕ
@@ -21,6 +20,10 @@ goalOf t u j i p =
       | true ↦ min p (j - (t - i))
       | false ↦ elim (ltb i u) [ true ↦ j | false ↦ max p (j + (i - u) + 1) ]
     ]
+
+-- how many of the robots count as below one that enters, with the named one behind it; one more than there are where none is the named one
+unfoldable pub lowerOf : ℕ → List ℕ → ℕ
+lowerOf named rs = elim (eqb named 255) [ true ↦ 0 | false ↦ suc (indexOf named rs) ]
 
 -- the goals of the robots at the places ps, counted from i
 unfoldable pub goalsFrom : ℕ → ℕ → ℕ → List ℕ → ℕ → List ℕ
@@ -105,3 +108,39 @@ goals-from j m (suc d) i (p ∷ ps) h =
     (ap₂ (λ (x : ℕ) (y : List ℕ). x ∷ y)
     (ap (λ (t : ℕ). goalOf t (suc i + d + m) j i p) (sym f) ∙ goal-below (i + suc d) (suc i + d + m) j i p (omega arith) ∙ ap (min p) e)
     (goals-from j m d (suc i) ps k))
+
+-- ---- the robots below
+
+-- none is named
+pub lower-none : (named : ℕ) (rs : List ℕ) → named ≡ 255 → lowerOf named rs ≡ 0
+unfolding lowerOf
+lower-none named rs e = rw (eq-eqb _ _ e, lowerOf)
+
+-- one is named
+pub lower-named : (named : ℕ) (rs : List ℕ) → (named ≡ 255 → ⊥) → lowerOf named rs ≡ suc (indexOf named rs)
+unfolding lowerOf
+lower-named named rs n = rw (ne-eqb _ _ n, lowerOf)
+
+-- a search comes to the end at most
+pub index-most : (x : ℕ) (l : List ℕ) → indexOf x l ≤ length l
+unfolding indexOf
+index-most x [] = omega arith
+index-most x (y ∷ l) = at (ℕ-discrete x y) (index-most x l)
+  where
+    at : Dec (x ≡ y) → indexOf x l ≤ length l → indexOf x (y ∷ l) ≤ length (y ∷ l)
+    at (yes e) h = rw (eq-eqb _ _ e, indexOf) (omega arith)
+    at (no n) h = rw (ne-eqb _ _ n, indexOf) (omega arith)
+
+-- the search for a robot from the i-th on: found, one further, at the end
+module _ (r : ℕ) (l : List ℕ) where
+  pub index-here : (i n : ℕ) → i < n → n ≤ length l → r ≡ getD l i 0 → i ≡ i + indexOf r (slice i n l)
+  unfolding indexOf
+  index-here i n h k e = rw (slice-cons i n l 0 h k, eq-eqb _ _ e, indexOf) (omega arith)
+
+  pub index-past : (i n : ℕ) → i < n → n ≤ length l → (r ≡ getD l i 0 → ⊥) → i + 1 + indexOf r (slice (i + 1) n l) ≡ i + indexOf r (slice i n l)
+  unfolding indexOf
+  index-past i n h k e = rw (slice-cons i n l 0 h k, ne-eqb _ _ e, indexOf, add-one i) (omega arith)
+
+  pub index-none : (n : ℕ) → n ≡ n + indexOf r (slice n n l)
+  unfolding indexOf
+  index-none n = rw (slice-empty n l) (omega arith)

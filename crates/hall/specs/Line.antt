@@ -29,9 +29,9 @@ pub collect-none : (a : Arrangement) (rs ps : List ℕ) → Collected a 0 0 rs p
 collect-none a rs ps = record { short = omega arith; robots = refl; places = refl }
 
 -- one element more was stored, and the rest is one shorter
-grown : (l : List ℕ) (n x : ℕ) (old rest whole : List ℕ) → n < length l → old ≡ x ∷ rest → take n l ++ old ≡ whole
+pub stored : (l : List ℕ) (n x : ℕ) (old rest whole : List ℕ) → n < length l → old ≡ x ∷ rest → take n l ++ old ≡ whole
     → take (n + 1) (set l n x) ++ rest ≡ whole
-grown l n x old rest whole h e w = rw (add-one n, take-suc-set l n x h, append-assoc) (ap (λ (t : List ℕ). take n l ++ t) (sym e) ∙ w)
+stored l n x old rest whole h e w = rw (add-one n, take-suc-set l n x h, append-assoc) (ap (λ (t : List ℕ). take n l ++ t) (sym e) ∙ w)
 
 module _ (s : meaning.State) (vs : List ℕ) where
   abbrev here : Arrangement
@@ -45,8 +45,8 @@ module _ (s : meaning.State) (vs : List ℕ) where
       let d : drop k here ≡ suc r ∷ drop (k + 1) here = arrangement-next s vs k r h e ∙ ap (λ (y : ℕ). y ∷ drop (k + 1) here) (cell-of x) in
       record {
         short = omega (arith, c .short);
-        robots = grown rs n r (order (drop k here)) (order (drop (k + 1) here)) _ a (ap order d) (c .robots);
-        places = grown ps n k (places k (drop k here)) (places (k + 1) (drop (k + 1) here)) _ b (ap (places k) d ∙ rw add-one) (c .places);
+        robots = stored rs n r (order (drop k here)) (order (drop (k + 1) here)) _ a (ap order d) (c .robots);
+        places = stored ps n k (places k (drop k here)) (places (k + 1) (drop (k + 1) here)) _ b (ap (places k) d ∙ rw add-one) (c .places);
       }
 
   -- none stands on place k
