@@ -2,3 +2,5 @@
 pub mod Counts
 pub mod Places
 pub mod Leaving
+pub mod Toward
+pub mod Comparing

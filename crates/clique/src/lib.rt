@@ -3,11 +3,19 @@
 //     counting   how many robots stand in a zone, of any kind
 //     placing    the robot on a place, the place of a robot, the earliest empty place
 //     leaving    leaving a clique, and making room in it
+//     toward     the moves towards a given arrangement
+//     comparing  two arrangements compared
+//     ending     bringing a clique to the goals
+pub mod comparing;
 pub mod counting;
+pub mod ending;
 pub mod leaving;
 pub mod placing;
+pub mod toward;
 
 pub use counting::is_full;
 pub use counting::last_free;
+pub use ending::bring_to_goals;
+pub use ending::can_end;
 pub use leaving::can_leave;
 pub use leaving::leave;
