@@ -1,5 +1,4 @@
 -- What the functions of this crate do, and the laws that their callers use.
-pub mod Laid
 pub mod States
 pub mod World
 pub mod Cells

@@ -12,27 +12,27 @@ use Rattle.spec.specs.State as meaning
 use Rattle.motion.specs.declared.State.{State}
 use Rattle.motion.specs.declared.Run.{Run}
 use Rattle.motion.specs.States.{stateOf}
-use Rattle.motion.specs.Laid.{laid, laidAll, laid-past, laid-length}
+use Rattle.wire.specs.Laid.{laid, laidAll, laid-length, laid-out}
 
 -- ---- the buffer
 
 -- the three bytes of the n-th move, after the two of the count
 unfoldable pub laidMove : List ℕ → ℕ → Move → List ℕ
-laidMove o n m = laid (laid (laid o (n * 3 + 2) (m .robot)) (n * 3 + 2 + 1) (m .from)) (n * 3 + 2 + 2) (m .to)
+laidMove o n m = laidAll o (n * 3 + 2) (m .robot ∷ m .from ∷ m .to ∷ [])
 
 -- three bytes, one after the other
 pub laid-move : (o o₁ o₂ o₃ : List ℕ) (n : ℕ) (m : Move)
     → o₁ ≡ laid o (n * 3 + 2) (m .robot) → o₂ ≡ laid o₁ (n * 3 + 2 + 1) (m .from) → o₃ ≡ laid o₂ (n * 3 + 2 + 2) (m .to)
     → o₃ ≡ laidMove o n m
 unfolding laidMove
-laid-move o o₁ o₂ o₃ n m a b d = d ∙ rw (b, a)
+laid-move o o₁ o₂ o₃ n m a b d =
+    let e : n * 3 + 2 + 2 ≡ n * 3 + 2 + 1 + 1 = omega arith in
+    d ∙ ap₂ (λ (l : List ℕ) (k : ℕ). laid l k (m .to)) (b ∙ ap (λ (l : List ℕ). laid l (n * 3 + 2 + 1) (m .from)) a) e
 
 -- a move that begins past the end of the buffer changes nothing
 pub laid-move-past : (o : List ℕ) (n : ℕ) (m : Move) → length o / 3 ≤ n → o ≡ laidMove o n m
 unfolding laidMove
-laid-move-past o n m h =
-    sym (rw (laid-past o (n * 3 + 2) (m .robot) (omega arith), laid-past o (n * 3 + 2 + 1) (m .from) (omega arith))
-    (laid-past o (n * 3 + 2 + 2) (m .to) (omega arith)))
+laid-move-past o n m h = sym (laid-out o (n * 3 + 2) (m .robot ∷ m .from ∷ m .to ∷ []) (omega arith))
 
 -- ---- the count
 
@@ -121,21 +121,19 @@ count-is w (m ∷ ms) h =
 -- the buffer after them: the bytes of the list, laid from its place on
 pub buffer-is : (w : World) (ms : List Move) → w .count + length ms ≤ mostMoves
     → madeAll w ms .buffer ≡ laidAll (w .buffer) (w .count * 3 + 2) (meaning.moveBytes ms)
-unfolding madeAll made laidAll meaning.moveBytes laidMove
+unfolding madeAll made meaning.moveBytes laidMove
 buffer-is w [] h = refl
 buffer-is w (m ∷ ms) h =
     let n : ℕ = w .count in
     let c : n + 1 ≡ oneMore n = one-more n (omega arith) in
-    let e : n * 3 + 2 + 2 ≡ n * 3 + 2 + 1 + 1 = omega arith in
     let d : oneMore n * 3 + 2 ≡ n * 3 + 2 + 1 + 1 + 1 = omega arith in
-    buffer-is (made w m) ms (omega arith)
-    ∙ ap₂ (λ (j k : ℕ). laidAll (laid (laid (laid (w .buffer) (n * 3 + 2) (m .robot)) (n * 3 + 2 + 1) (m .from)) j (m .to)) k (meaning.moveBytes ms)) e d
+    buffer-is (made w m) ms (omega arith) ∙ ap (λ (k : ℕ). laidAll (laidMove (w .buffer) n m) k (meaning.moveBytes ms)) d
 
 -- the buffer keeps its length
 pub buffer-length : (w : World) (ms : List Move) → length (madeAll w ms .buffer) ≡ length (w .buffer)
 unfolding madeAll made laidMove
 buffer-length w [] = refl
-buffer-length w (m ∷ ms) = buffer-length (made w m) ms ∙ simp laid-length
+buffer-length w (m ∷ ms) = buffer-length (made w m) ms ∙ laid-length (w .buffer) (w .count * 3 + 2) (m .robot ∷ m .from ∷ m .to ∷ [])
 
 -- moves keep the lengths of the state's lists
 pub robots-length : (s : meaning.State) (ms : List Move) → length (meaning.movedAll s ms .robots) ≡ length (s .robots)

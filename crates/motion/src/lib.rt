@@ -4,12 +4,12 @@ ghost use Prim.Native.Nat.{_+_, _-_, _*_, _<_, _≤_, min};
 ghost use lib.ListN.{length, set, getD, take};
 ghost use Rattle.spec.specs.Arrangement.{mv, seek, apply};
 ghost use Rattle.spec.specs.State.{robotOn, arrangementOf, acrossMove, cellOf};
-ghost use Rattle.motion.specs.Laid.{laid};
 ghost use Rattle.motion.specs.States.{stateOf, stood, movedBy};
 ghost use Rattle.motion.specs.World.{worldOf, made, laidMove, oneMore};
 ghost use Rattle.motion.specs.Cells.{overlaid};
 use numbering::Robot;
 use numbering::Vertex;
+use wire::put_byte;
 
 // The robot on each vertex and the vertex of each robot; 255 is no robot, and no vertex.
 pub struct State {
@@ -59,18 +59,18 @@ pub fn standing(starts: [u8; 64], k: usize) -> State
 pub fn moved(s: State, r: Robot, from: Vertex, to: Vertex) -> State
     ensures { λ t. ⌜ stateOf t ≡ movedBy (stateOf s) (mv (r .0) (from .0) (to .0)) ⌝ }
 {
-    let f = from.0 as usize;
-    let d = to.0 as usize;
-    let i = r.0 as usize;
+    let left = from.0 as usize;
+    let taken = to.0 as usize;
+    let robot = r.0 as usize;
     let mut t = s;
-    if f < 128 {
-        t.robots[f] = Robot(255);
+    if left < 128 {
+        t.robots[left] = Robot(255);
     }
-    if d < 128 {
-        t.robots[d] = r;
+    if taken < 128 {
+        t.robots[taken] = r;
     }
-    if i < 64 {
-        t.vertices[i] = to;
+    if robot < 64 {
+        t.vertices[robot] = to;
     }
     t
 }
@@ -95,18 +95,6 @@ pub fn vertex_of(s: State, r: Robot) -> Vertex
         return s.vertices[i];
     }
     Vertex(255)
-}
-
-// Payload byte off of an answer, as far as the buffer goes.
-pub fn put_byte(out: &mut [u8], off: usize, b: u8)
-    ensures { λ r. ⌜ now (out .exit) ≡ laid (now (out .entry)) off b ⌝ }
-{
-    if off < out.len() {
-        let at = off / 504 * 512 + 6 + off % 504;
-        if at < out.len() {
-            out[at] = b;
-        }
-    }
 }
 
 // The bytes of the n-th move.

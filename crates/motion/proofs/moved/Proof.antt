@@ -10,16 +10,16 @@ use Rattle.motion.proofs.moved.Reads as reads
 use Rattle.motion.proofs.moved.Lts as lts
 
 -- src/lib.rt:70:13
-cast-f : tie.Need-cast-f
-cast-f c = search needs
+cast-left : tie.Need-cast-left
+cast-left c = search needs
 
 -- src/lib.rt:71:13
-cast-d : tie.Need-cast-d
-cast-d c = search needs
+cast-taken : tie.Need-cast-taken
+cast-taken c = search needs
 
 -- src/lib.rt:72:13
-cast-i : tie.Need-cast-i
-cast-i c = search needs
+cast-robot : tie.Need-cast-robot
+cast-robot c = search needs
 
 -- src/lib.rt:75:9
 element-set-from-t : tie.Need-element-set-from-t
@@ -67,9 +67,9 @@ pub moved-spec : {M : Type 1} → statement M
 moved-spec =
     tie.close
     (tie.spec
-    cast-f
-    cast-d
-    cast-i
+    cast-left
+    cast-taken
+    cast-robot
     element-set-from-t
     element-set-from-r
     element-set-from-to

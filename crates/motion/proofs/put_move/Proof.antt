@@ -5,7 +5,7 @@ use Rattle.motion.proofs.put_move.Statement.{statement}
 use Rattle.motion.proofs.put_move.Tie as tie
 use Rattle.motion.proofs.put_move.Reads as reads
 use Rattle.motion.proofs.put_move.Lts as lts
-use Rattle.motion.proofs.put_byte.Reads as put-byte-reads
+use Rattle.wire.proofs.answer.put_byte.Reads as put-byte-reads
 
 -- src/lib.rt:117:18
 mul-at : tie.Need-mul-at
