@@ -4,3 +4,4 @@ pub mod Places
 pub mod Leaving
 pub mod Toward
 pub mod Comparing
+pub mod Entering

@@ -6,9 +6,11 @@
 //     toward     the moves towards a given arrangement
 //     comparing  two arrangements compared
 //     ending     bringing a clique to the goals
+//     entering   entering a clique, with a follow list where it is filled
 pub mod comparing;
 pub mod counting;
 pub mod ending;
+pub mod entering;
 pub mod leaving;
 pub mod placing;
 pub mod toward;
@@ -17,5 +19,8 @@ pub use counting::is_full;
 pub use counting::last_free;
 pub use ending::bring_to_goals;
 pub use ending::can_end;
+pub use entering::can_enter;
+pub use entering::enter;
+pub use entering::follow_list;
 pub use leaving::can_leave;
 pub use leaving::leave;

@@ -7,8 +7,6 @@ use Rattle.spec.specs.Arrangement.{order}
 use Rattle.clique.specs.Comparing.{count-taken, count-empty, count-all}
 use Rattle.clique.proofs.comparing.count_cells.Statement.{statement}
 use Rattle.clique.proofs.comparing.count_cells.Tie as tie
-use Rattle.clique.proofs.comparing.count_cells.Reads as reads
-use Rattle.clique.proofs.comparing.count_cells.Lts as lts
 
 abbrev Inv-loop : tie.InvT-loop
 Inv-loop cells n₀ k₀ n k = (k ≤ length cells) × (n ≤ k) × (n + length (order (drop k cells)) ≡ length (order cells))
@@ -16,39 +14,30 @@ Inv-loop cells n₀ k₀ n k = (k ≤ length cells) × (n ≤ k) × (n + length 
 abbrev μ-loop : tie.MeasureT-loop
 μ-loop cells n₀ k₀ n k = length cells - k
 
--- src/comparing.rt:15:5
 loop-holds : tie.Need-loop-holds Inv-loop μ-loop
 loop-holds c = (search needs, search needs, omega arith)
 
--- src/comparing.rt:16:17
 shared-slice-read-x : tie.Need-shared-slice-read-x Inv-loop μ-loop
 shared-slice-read-x c = search needs
 
--- src/comparing.rt:17:9
 add-k : tie.Need-add-k Inv-loop μ-loop
 add-k c = search needs
 
--- src/comparing.rt:19:13
 add-n : tie.Need-add-n Inv-loop μ-loop
 add-n c = search needs
 
--- src/comparing.rt:15:5
 loop-less : tie.Need-loop-less Inv-loop μ-loop
 loop-less c = search needs
 
--- src/comparing.rt:15:5
 loop-again : tie.Need-loop-again Inv-loop μ-loop
 loop-again c = (search needs, search needs, omega (arith, c .before .before .before .loop .inv .2, count-taken (c .before .before .before .before .args .cells .now) (c .before .before .before .loop .k) (search needs) (c .if1 .taken)))
 
--- src/comparing.rt:15:5
 loop-less-2 : tie.Need-loop-less-2 Inv-loop μ-loop
 loop-less-2 c = search needs
 
--- src/comparing.rt:15:5
 loop-again-2 : tie.Need-loop-again-2 Inv-loop μ-loop
 loop-again-2 c = (search needs, search needs, omega (arith, c .before .before .before .loop .inv .2, count-empty (c .before .before .before .before .args .cells .now) (c .before .before .before .loop .k) (search needs) (c .if1 .left)))
 
--- src/comparing.rt:10:1
 returns : tie.Need-returns Inv-loop μ-loop
 returns c = omega (arith, c .before .loop .inv .2, count-all (c .before .before .args .cells .now) (c .before .loop .k) (search needs))
 

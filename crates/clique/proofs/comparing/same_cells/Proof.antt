@@ -7,8 +7,6 @@ use Rattle.clique.specs.Comparing.{list-other, list-further, list-not, l
 use Rattle.spec.specs.Outcome.{sameList}
 use Rattle.clique.proofs.comparing.same_cells.Statement.{statement}
 use Rattle.clique.proofs.comparing.same_cells.Tie as tie
-use Rattle.clique.proofs.comparing.same_cells.Reads as reads
-use Rattle.clique.proofs.comparing.same_cells.Lts as lts
 
 abbrev Inv-loop : tie.InvT-loop
 Inv-loop cells goal k₀ k = (k ≤ length cells) × (length cells ≡ length goal) × (sameList (drop k cells) (drop k goal) ≡ sameList cells goal)
@@ -16,39 +14,30 @@ Inv-loop cells goal k₀ k = (k ≤ length cells) × (length cells ≡ length go
 abbrev μ-loop : tie.MeasureT-loop
 μ-loop cells goal k₀ k = length cells - k
 
--- src/comparing.rt:64:9
 returns : tie.Need-returns Inv-loop μ-loop
 returns c = list-other (c .before .args .cells .now) (c .before .args .goal .now) (c .if1 .taken)
 
--- src/comparing.rt:67:5
 loop-holds : tie.Need-loop-holds Inv-loop μ-loop
 loop-holds c = (search needs, search needs, refl)
 
--- src/comparing.rt:68:12
 shared-slice-read-if2 : tie.Need-shared-slice-read-if2 Inv-loop μ-loop
 shared-slice-read-if2 c = search needs
 
--- src/comparing.rt:68:24
 shared-slice-read-if2-2 : tie.Need-shared-slice-read-if2-2 Inv-loop μ-loop
 shared-slice-read-if2-2 c = search needs
 
--- src/comparing.rt:69:13
 returns-2 : tie.Need-returns-2 Inv-loop μ-loop
 returns-2 c = list-not (c .before .before .before .before .before .before .args .cells .now) (c .before .before .before .before .before .before .args .goal .now) (c .before .before .before .before .loop .k) (omega arith) (omega arith) (c .if2 .taken) ∙ c .before .before .before .before .loop .inv .2
 
--- src/comparing.rt:71:9
 add-k : tie.Need-add-k Inv-loop μ-loop
 add-k c = search needs
 
--- src/comparing.rt:67:5
 loop-less : tie.Need-loop-less Inv-loop μ-loop
 loop-less c = search needs
 
--- src/comparing.rt:67:5
 loop-again : tie.Need-loop-again Inv-loop μ-loop
 loop-again c = (search needs, search needs, list-further (c .before .before .before .before .before .before .args .cells .now) (c .before .before .before .before .before .before .args .goal .now) (c .before .before .before .before .loop .k) (omega arith) (omega arith) (c .if2 .left) ∙ c .before .before .before .before .loop .inv .2)
 
--- src/comparing.rt:60:1
 returns-3 : tie.Need-returns-3 Inv-loop μ-loop
 returns-3 c = list-all (c .before .before .before .args .cells .now) (c .before .before .before .args .goal .now) (c .before .loop .k) (omega arith) (omega arith) ∙ c .before .loop .inv .2
 

@@ -3,36 +3,25 @@ use mathlib.Core.Path.{sym, _∙_}
 use Rattle.clique.specs.Comparing.{robots-other, robots-not, robots-same}
 use Rattle.clique.proofs.comparing.same_robots.Statement.{statement}
 use Rattle.clique.proofs.comparing.same_robots.Tie as tie
-use Rattle.clique.proofs.comparing.same_robots.Reads as reads
-use Rattle.clique.proofs.comparing.same_robots.Lts as lts
-use Rattle.clique.proofs.comparing.all_in.Reads as all-in-reads
-use Rattle.clique.proofs.comparing.count_cells.Reads as count-cells-reads
 
--- src/comparing.rt:47:9
 count-cells-requires : tie.Need-count-cells-requires
 count-cells-requires c κs = search needs
 
--- src/comparing.rt:48:9
 count-cells-requires-2 : tie.Need-count-cells-requires-2
 count-cells-requires-2 c κs = search needs
 
--- src/comparing.rt:50:9
 returns : tie.Need-returns
 returns c = robots-other (c .before .before .before .before .before .args .cells .now) (c .before .before .before .before .before .args .goal .now) (λ q. c .if1 .taken (c .before .before .count-cells .ensures ∙ q ∙ sym (c .before .count-cells2 .ensures)))
 
--- src/comparing.rt:52:9
 all-in-requires : tie.Need-all-in-requires
 all-in-requires c κs = search needs
 
--- src/comparing.rt:54:9
 all-in-requires-2 : tie.Need-all-in-requires-2
 all-in-requires-2 c κs = search needs
 
--- src/comparing.rt:54:9
 returns-2 : tie.Need-returns-2
 returns-2 c = c .all-in2 .ensures ∙ robots-same (c .before .before .before .before .before .before .before .before .args .cells .now) (c .before .before .before .before .before .before .before .before .args .goal .now) (sym (c .before .before .before .before .before .count-cells .ensures) ∙ c .before .before .before .if1 .left ∙ c .before .before .before .before .count-cells2 .ensures) (sym (c .before .if2 .taken) ∙ c .before .before .all-in .ensures)
 
--- src/comparing.rt:44:1
 returns-3 : tie.Need-returns-3
 returns-3 c = robots-not (c .before .before .before .before .before .before .before .args .cells .now) (c .before .before .before .before .before .before .before .args .goal .now) (sym (c .before .before .before .before .count-cells .ensures) ∙ c .before .before .if1 .left ∙ c .before .before .before .count-cells2 .ensures) (sym (c .if2 .left) ∙ c .before .all-in .ensures)
 

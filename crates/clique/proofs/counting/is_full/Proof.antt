@@ -3,15 +3,10 @@ use Rattle.motion.specs.States.{stateOf}
 use Rattle.clique.specs.Counts.{full-is}
 use Rattle.clique.proofs.counting.is_full.Statement.{statement}
 use Rattle.clique.proofs.counting.is_full.Tie as tie
-use Rattle.clique.proofs.counting.is_full.Reads as reads
-use Rattle.clique.proofs.counting.is_full.Lts as lts
-use Rattle.clique.proofs.counting.count_robots.Reads as count-robots-reads
 
--- src/counting.rt:41:9
 count-robots-requires : tie.Need-count-robots-requires
 count-robots-requires c κs = search needs
 
--- src/counting.rt:38:1
 returns : tie.Need-returns
 returns c = full-is (stateOf (c .before .before .args .s)) (c .before .before .args .zone .now) (c .count-robots .result) (c .count-robots .ensures)
 

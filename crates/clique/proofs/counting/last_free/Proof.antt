@@ -3,23 +3,16 @@ use Rattle.motion.specs.States.{stateOf}
 use Rattle.clique.specs.Counts.{last-free-none, last-free-is}
 use Rattle.clique.proofs.counting.last_free.Statement.{statement}
 use Rattle.clique.proofs.counting.last_free.Tie as tie
-use Rattle.clique.proofs.counting.last_free.Reads as reads
-use Rattle.clique.proofs.counting.last_free.Lts as lts
-use Rattle.clique.proofs.counting.count_robots.Reads as count-robots-reads
 
--- src/counting.rt:50:9
 returns : tie.Need-returns
 returns c = last-free-none (stateOf (c .before .before .args .s)) (c .before .before .args .zone .now) (c .if1 .taken)
 
--- src/counting.rt:52:9
 count-robots-requires : tie.Need-count-robots-requires
 count-robots-requires c κs = search needs
 
--- src/counting.rt:53:10
 sub-result : tie.Need-sub-result
 sub-result c = search needs
 
--- src/counting.rt:46:1
 returns-2 : tie.Need-returns-2
 returns-2 c = last-free-is (stateOf (c .before .before .before .args .s)) (c .before .before .before .args .zone .now) (c .count-robots .result) (c .count-robots .ensures) (c .before .if1 .left)
 

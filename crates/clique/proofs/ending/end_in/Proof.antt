@@ -13,40 +13,28 @@ use Rattle.clique.specs.Comparing.{end-is}
 use Rattle.spec.specs.Clique.{cliqueTo}
 use Rattle.clique.proofs.ending.end_in.Statement.{statement}
 use Rattle.clique.proofs.ending.end_in.Tie as tie
-use Rattle.clique.proofs.ending.end_in.Reads as reads
-use Rattle.clique.proofs.ending.end_in.Lts as lts
-use Rattle.clique.proofs.toward.go_toward.Reads as go-toward-reads
-use Rattle.motion.proofs.cells_of.Reads as cells-of-reads
 
--- src/ending.rt:47:5
 cells-of-requires : tie.Need-cells-of-requires
 cells-of-requires c κs = search needs
 
--- src/ending.rt:48:5
 cells-of-requires-2 : tie.Need-cells-of-requires-2
 cells-of-requires-2 c κs = search needs
 
--- src/ending.rt:49:13
 mul-n : tie.Need-mul-n
 mul-n c = search needs
 
--- src/ending.rt:50:5
 go-toward-requires : tie.Need-go-toward-requires
 go-toward-requires c κs = search needs
 
--- src/ending.rt:42:1
 same-length : tie.Need-same-length
 same-length c = search needs
 
--- src/ending.rt:42:1
 same-length-2 : tie.Need-same-length-2
 same-length-2 c = search needs
 
--- src/ending.rt:42:1
 same-length-3 : tie.Need-same-length-3
 same-length-3 c = search needs
 
--- src/ending.rt:42:1
 returns : tie.Need-returns
 returns c = let p = c .before .before .before .before .before .before .before .before .before .before .before .before .before .before .before .before .before .before .before .before .before .args in
     let z = p .zone .now in

@@ -9,29 +9,19 @@ use Rattle.motion.specs.Across.{arrangement-length}
 use Rattle.clique.specs.Leaving.{can-leave-full, can-leave-other}
 use Rattle.clique.proofs.leaving.can_leave.Statement.{statement}
 use Rattle.clique.proofs.leaving.can_leave.Tie as tie
-use Rattle.clique.proofs.leaving.can_leave.Reads as reads
-use Rattle.clique.proofs.leaving.can_leave.Lts as lts
-use Rattle.clique.proofs.counting.is_full.Reads as is-full-reads
-use Rattle.clique.proofs.placing.place_of.Reads as place-of-reads
-use Rattle.clique.proofs.placing.stands.Reads as stands-reads
 
--- src/leaving.rt:22:9
 is-full-requires : tie.Need-is-full-requires
 is-full-requires c κs = search needs
 
--- src/leaving.rt:24:9
 stands-requires : tie.Need-stands-requires
 stands-requires c κs = search needs
 
--- src/leaving.rt:24:9
 returns : tie.Need-returns
 returns c = c .stands .ensures ∙ can-leave-full (arrangementOf (stateOf (c .before .before .before .before .args .s)) (c .before .before .before .before .args .zone .now)) (c .before .before .before .before .args .r .0) (c .before .before .before .before .args .j) (sym (c .before .if1 .taken) ∙ c .before .before .is-full .ensures)
 
--- src/leaving.rt:26:9
 place-of-requires : tie.Need-place-of-requires
 place-of-requires c κs = search needs
 
--- src/leaving.rt:19:1
 returns-2 : tie.Need-returns-2
 returns-2 c = let a = arrangementOf (stateOf (c .before .before .before .before .args .s)) (c .before .before .before .before .args .zone .now) in
     ap (λ (i : ℕ). ltb i (length (c .before .before .before .before .args .zone .now))) (c .place-of .ensures)

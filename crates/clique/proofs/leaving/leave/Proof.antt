@@ -12,49 +12,33 @@ use Rattle.motion.specs.Across.{across-move, made-last}
 use Rattle.clique.specs.Leaving.{leave-stays, leave-goes, made-nothing}
 use Rattle.clique.proofs.leaving.leave.Statement.{statement}
 use Rattle.clique.proofs.leaving.leave.Tie as tie
-use Rattle.clique.proofs.leaving.leave.Reads as reads
-use Rattle.clique.proofs.leaving.leave.Lts as lts
-use Rattle.clique.proofs.leaving.make_room.Reads as make-room-reads
-use Rattle.clique.proofs.placing.place_of.Reads as place-of-reads
-use Rattle.clique.proofs.placing.stands.Reads as stands-reads
-use Rattle.motion.proofs.make.Reads as make-reads
-use Rattle.motion.proofs.vertex_at.Reads as vertex-at-reads
 
--- src/leaving.rt:50:9
 stands-requires : tie.Need-stands-requires
 stands-requires c κs = search needs
 
--- src/leaving.rt:52:9
 returns : tie.Need-returns
 returns c = let a = c .before .before .before .before .before .args in
     made-nothing (worldOf (a .run) (a .out .now)) (a .zone .now) _
     (leave-stays (arrangementOf (stateOf (a .run .state)) (a .zone .now)) (a .r .0) (a .j) (sym (c .if1 .taken) ∙ c .before .stands .ensures))
 
--- src/leaving.rt:54:9
 place-of-requires : tie.Need-place-of-requires
 place-of-requires c κs = search needs
 
--- src/leaving.rt:55:9
 vertex-at-requires : tie.Need-vertex-at-requires
 vertex-at-requires c κs = search needs
 
--- src/leaving.rt:56:9
 vertex-at-requires-2 : tie.Need-vertex-at-requires-2
 vertex-at-requires-2 c κs = search needs
 
--- src/leaving.rt:57:9
 make-room-requires : tie.Need-make-room-requires
 make-room-requires c κs = search needs
 
--- src/leaving.rt:58:5
 make-requires : tie.Need-make-requires
 make-requires c κs = search needs
 
--- src/leaving.rt:46:1
 same-length : tie.Need-same-length
 same-length c = search needs
 
--- src/leaving.rt:46:1
 returns-2 : tie.Need-returns-2
 returns-2 c = let a = c .before .before .before .before .before .before .before .before .before .before .before .before .before .before .before .before .args in
     let z = a .zone .now in

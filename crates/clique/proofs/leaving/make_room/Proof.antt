@@ -10,44 +10,30 @@ use Rattle.motion.specs.Across.{across-move}
 use Rattle.clique.specs.Leaving.{room-none, room-made, made-nothing, made-single}
 use Rattle.clique.proofs.leaving.make_room.Statement.{statement}
 use Rattle.clique.proofs.leaving.make_room.Tie as tie
-use Rattle.clique.proofs.leaving.make_room.Reads as reads
-use Rattle.clique.proofs.leaving.make_room.Lts as lts
-use Rattle.clique.proofs.placing.first_free.Reads as first-free-reads
-use Rattle.clique.proofs.placing.robot_at.Reads as robot-at-reads
-use Rattle.motion.proofs.make.Reads as make-reads
-use Rattle.motion.proofs.vertex_at.Reads as vertex-at-reads
 
--- src/leaving.rt:35:9
 robot-at-requires : tie.Need-robot-at-requires
 robot-at-requires c κs = search needs
 
--- src/leaving.rt:37:9
 returns : tie.Need-returns
 returns c = let a = c .before .before .before .before .before .before .args in
     made-nothing (worldOf (a .run) (a .out .now)) (a .zone .now) _
     (room-none (arrangementOf (stateOf (a .run .state)) (a .zone .now)) (a .j) (c .before .before .robot-at .result .0) (c .before .before .robot-at .ensures) (c .if1 .taken))
 
--- src/leaving.rt:39:9
 first-free-requires : tie.Need-first-free-requires
 first-free-requires c κs = search needs
 
--- src/leaving.rt:40:9
 vertex-at-requires : tie.Need-vertex-at-requires
 vertex-at-requires c κs = search needs
 
--- src/leaving.rt:41:9
 vertex-at-requires-2 : tie.Need-vertex-at-requires-2
 vertex-at-requires-2 c κs = search needs
 
--- src/leaving.rt:42:5
 make-requires : tie.Need-make-requires
 make-requires c κs = search needs
 
--- src/leaving.rt:31:1
 same-length : tie.Need-same-length
 same-length c = search needs
 
--- src/leaving.rt:31:1
 returns-2 : tie.Need-returns-2
 returns-2 c = let a = c .before .before .before .before .before .before .before .before .before .before .before .before .before .args in
     let z = a .zone .now in

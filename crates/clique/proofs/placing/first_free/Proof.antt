@@ -10,29 +10,20 @@ use lib.Count.{trailingZeros, trailing-le}
 use Rattle.theory.specs.Maps.State.{cell-none}
 use Rattle.clique.proofs.placing.first_free.Statement.{statement}
 use Rattle.clique.proofs.placing.first_free.Tie as tie
-use Rattle.clique.proofs.placing.first_free.Reads as reads
-use Rattle.clique.proofs.placing.first_free.Lts as lts
-use Rattle.clique.proofs.placing.free_word.Reads as free-word-reads
-use Rattle.clique.proofs.placing.seek_robot.Reads as seek-robot-reads
 
--- src/placing.rt:83:9
 free-word-requires : tie.Need-free-word-requires
 free-word-requires c κs = search needs
 
--- src/placing.rt:85:16
 cast-result : tie.Need-cast-result
 cast-result c = omega (arith, trailing-le 64 (c .before .free-word .result))
 
--- src/placing.rt:85:9
 returns : tie.Need-returns
 returns c = let e = c .before .free-word .ensures in
     ap (trailingZeros 64) e ∙ free-seek 64 (arrangementOf (stateOf (c .before .before .before .args .s)) (c .before .before .before .args .zone .now)) (omega (arith, e))
 
--- src/placing.rt:87:5
 seek-robot-requires : tie.Need-seek-robot-requires
 seek-robot-requires c κs = search needs
 
--- src/placing.rt:80:1
 returns-2 : tie.Need-returns-2
 returns-2 c = c .seek-robot .ensures ∙ ap (λ (x : ℕ). seek x (arrangementOf (stateOf (c .before .before .before .before .args .s)) (c .before .before .before .before .args .zone .now))) (cell-none refl)
 

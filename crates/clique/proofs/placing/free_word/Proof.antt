@@ -9,10 +9,6 @@ use Rattle.clique.specs.Places.{freeWord, free-empty, free-taken}
 use Rattle.clique.specs.Places.{free-half, free-start}
 use Rattle.clique.proofs.placing.free_word.Statement.{statement}
 use Rattle.clique.proofs.placing.free_word.Tie as tie
-use Rattle.clique.proofs.placing.free_word.Reads as reads
-use Rattle.clique.proofs.placing.free_word.Lts as lts
-use Rattle.clique.proofs.counting.least.Reads as least-reads
-use Rattle.motion.proofs.robot_on.Reads as robot-on-reads
 
 abbrev Inv-loop : tie.InvT-loop
 Inv-loop s zone w₀ k₀ w k = (k ≤ length zone) × (k ≤ 64) × (w ≡ freeWord (64 - k) (drop k (arrangementOf (stateOf s) zone)))
@@ -20,45 +16,36 @@ Inv-loop s zone w₀ k₀ w k = (k ≤ length zone) × (k ≤ 64) × (w ≡ free
 abbrev μ-loop : tie.MeasureT-loop
 μ-loop s zone w₀ k₀ w k = k
 
--- src/placing.rt:66:9
 least-requires : tie.Need-least-requires Inv-loop μ-loop
 least-requires c κs = search needs
 
--- src/placing.rt:67:5
 loop-holds : tie.Need-loop-holds Inv-loop μ-loop
 loop-holds c = (search needs, search needs, free-start (stateOf (c .before .before .args .s)) (c .before .before .args .zone .now) (c .least .result) (c .least .ensures))
 
--- src/placing.rt:68:9
 sub-k : tie.Need-sub-k Inv-loop μ-loop
 sub-k c = search needs
 
--- src/placing.rt:69:36
 shared-slice-read-t9 : tie.Need-shared-slice-read-t9 Inv-loop μ-loop
 shared-slice-read-t9 c = search needs
 
--- src/placing.rt:69:13
 robot-on-requires : tie.Need-robot-on-requires Inv-loop μ-loop
 robot-on-requires c κs = search needs
 
--- src/placing.rt:70:13
 mul-w : tie.Need-mul-w Inv-loop μ-loop
 mul-w c = let a = c .before .before .before .before .before .before .args in
     let o = c .before .before .before .loop in
     let d : 64 - o .k ≤ 63 = omega arith in
     omega (arith, free-half (o .k) (arrangementOf (stateOf (a .s)) (a .zone .now)) (c .before .before .loop-test .taken))
 
--- src/placing.rt:72:13
 add-w : tie.Need-add-w Inv-loop μ-loop
 add-w c = let a = c .before .before .before .before .before .before .before .before .args in
     let o = c .before .before .before .before .before .loop in
     let d : 64 - o .k ≤ 63 = omega arith in
     omega (arith, free-half (o .k) (arrangementOf (stateOf (a .s)) (a .zone .now)) (c .before .before .before .before .loop-test .taken))
 
--- src/placing.rt:67:5
 loop-less : tie.Need-loop-less Inv-loop μ-loop
 loop-less c = search needs
 
--- src/placing.rt:67:5
 loop-again : tie.Need-loop-again Inv-loop μ-loop
 loop-again c = let a = c .before .before .before .before .before .before .before .before .args in
     let o = c .before .before .before .before .before .loop in
@@ -66,11 +53,9 @@ loop-again c = let a = c .before .before .before .before .before .before .before
     let w : o .w ≡ freeWord (64 - (o .k - 1 + 1)) (drop (o .k - 1 + 1) (arrangementOf (stateOf (a .s)) (a .zone .now))) = o .inv .2 ∙ ap (λ (i : ℕ). freeWord (64 - i) (drop i (arrangementOf (stateOf (a .s)) (a .zone .now)))) (sym d) in
     (omega arith, omega arith, ap (λ (x : ℕ). x * 2 + 1) w ∙ sym (free-empty (stateOf (a .s)) (a .zone .now) (o .k - 1) (c .before .before .robot-on .result .0) (omega arith) (omega arith) (c .before .before .robot-on .ensures) (c .if1 .taken)))
 
--- src/placing.rt:67:5
 loop-less-2 : tie.Need-loop-less-2 Inv-loop μ-loop
 loop-less-2 c = search needs
 
--- src/placing.rt:67:5
 loop-again-2 : tie.Need-loop-again-2 Inv-loop μ-loop
 loop-again-2 c = let a = c .before .before .before .before .before .before .before .before .args in
     let o = c .before .before .before .before .before .loop in
@@ -78,7 +63,6 @@ loop-again-2 c = let a = c .before .before .before .before .before .before .befo
     let w : o .w ≡ freeWord (64 - (o .k - 1 + 1)) (drop (o .k - 1 + 1) (arrangementOf (stateOf (a .s)) (a .zone .now))) = o .inv .2 ∙ ap (λ (i : ℕ). freeWord (64 - i) (drop i (arrangementOf (stateOf (a .s)) (a .zone .now)))) (sym d) in
     (omega arith, omega arith, ap (λ (x : ℕ). x * 2) w ∙ sym (free-taken (stateOf (a .s)) (a .zone .now) (o .k - 1) (c .before .before .robot-on .result .0) (omega arith) (omega arith) (c .before .before .robot-on .ensures) (c .if1 .left)))
 
--- src/placing.rt:62:1
 returns : tie.Need-returns Inv-loop μ-loop
 returns c = let a = c .before .before .before .before .args in
     let o = c .before .loop in

@@ -8,19 +8,13 @@ use Rattle.clique.specs.Places.{seek-nobody}
 use Rattle.theory.specs.Maps.State.{cell-of}
 use Rattle.clique.proofs.placing.place_of.Statement.{statement}
 use Rattle.clique.proofs.placing.place_of.Tie as tie
-use Rattle.clique.proofs.placing.place_of.Reads as reads
-use Rattle.clique.proofs.placing.place_of.Lts as lts
-use Rattle.clique.proofs.placing.seek_robot.Reads as seek-robot-reads
 
--- src/placing.rt:56:9
 returns : tie.Need-returns
 returns c = seek-nobody (stateOf (c .before .before .before .args .s)) (c .before .before .before .args .zone .now) (c .before .before .before .args .r .0) (c .if1 .taken)
 
--- src/placing.rt:58:5
 seek-robot-requires : tie.Need-seek-robot-requires
 seek-robot-requires c κs = search needs
 
--- src/placing.rt:52:1
 returns-2 : tie.Need-returns-2
 returns-2 c = c .seek-robot .ensures ∙ ap (λ (x : ℕ). seek x (arrangementOf (stateOf (c .before .before .before .before .args .s)) (c .before .before .before .before .args .zone .now))) (cell-of (c .before .if1 .left))
 

@@ -9,9 +9,6 @@ use Rattle.motion.specs.States.{stateOf}
 use Rattle.clique.specs.Places.{seek-here, seek-further, seek-none}
 use Rattle.clique.proofs.placing.seek_robot.Statement.{statement}
 use Rattle.clique.proofs.placing.seek_robot.Tie as tie
-use Rattle.clique.proofs.placing.seek_robot.Reads as reads
-use Rattle.clique.proofs.placing.seek_robot.Lts as lts
-use Rattle.motion.proofs.robot_on.Reads as robot-on-reads
 
 abbrev Inv-loop : tie.InvT-loop
 Inv-loop s zone r i₀ i = (i ≤ length zone) × (i + seek (cellOf (r .0)) (drop i (arrangementOf (stateOf s) zone)) ≡ seek (cellOf (r .0)) (arrangementOf (stateOf s) zone))
@@ -19,39 +16,31 @@ Inv-loop s zone r i₀ i = (i ≤ length zone) × (i + seek (cellOf (r .0)) (dro
 abbrev μ-loop : tie.MeasureT-loop
 μ-loop s zone r i₀ i = length zone - i
 
--- src/placing.rt:41:5
 loop-holds : tie.Need-loop-holds Inv-loop μ-loop
 loop-holds c = (search needs, omega arith)
 
--- src/placing.rt:42:36
 shared-slice-read-t9 : tie.Need-shared-slice-read-t9 Inv-loop μ-loop
 shared-slice-read-t9 c = search needs
 
--- src/placing.rt:42:13
 robot-on-requires : tie.Need-robot-on-requires Inv-loop μ-loop
 robot-on-requires c κs = search needs
 
--- src/placing.rt:44:13
 returns : tie.Need-returns Inv-loop μ-loop
 returns c = let a = c .before .before .before .before .before .before .before .before .args in
     let o = c .before .before .before .before .before .before .loop in
     seek-here (stateOf (a .s)) (a .zone .now) (o .i) (a .r .0) (c .before .before .before .robot-on .result .0) (search needs) (c .before .before .before .robot-on .ensures) (c .if1 .taken) ∙ o .inv .1
 
--- src/placing.rt:46:9
 add-i : tie.Need-add-i Inv-loop μ-loop
 add-i c = search needs
 
--- src/placing.rt:41:5
 loop-less : tie.Need-loop-less Inv-loop μ-loop
 loop-less c = search needs
 
--- src/placing.rt:41:5
 loop-again : tie.Need-loop-again Inv-loop μ-loop
 loop-again c = let a = c .before .before .before .before .before .before .before .before .args in
     let o = c .before .before .before .before .before .before .loop in
     (search needs, seek-further (stateOf (a .s)) (a .zone .now) (o .i) (a .r .0) (c .before .before .before .robot-on .result .0) (search needs) (c .before .before .before .robot-on .ensures) (c .if1 .left) ∙ o .inv .1)
 
--- src/placing.rt:37:1
 returns-2 : tie.Need-returns-2 Inv-loop μ-loop
 returns-2 c = let a = c .before .before .before .args in
     let o = c .before .loop in

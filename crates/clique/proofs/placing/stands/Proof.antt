@@ -2,19 +2,13 @@ use borrow.Author.Needs.{needs}
 use Rattle.clique.specs.Places.{stands-not, stands-is}
 use Rattle.clique.proofs.placing.stands.Statement.{statement}
 use Rattle.clique.proofs.placing.stands.Tie as tie
-use Rattle.clique.proofs.placing.stands.Reads as reads
-use Rattle.clique.proofs.placing.stands.Lts as lts
-use Rattle.clique.proofs.placing.robot_at.Reads as robot-at-reads
 
--- src/placing.rt:29:9
 robot-at-requires : tie.Need-robot-at-requires
 robot-at-requires c κs = search needs
 
--- src/placing.rt:31:9
 returns : tie.Need-returns
 returns c = stands-not (c .before .before .robot-at .result .0) (c .before .before .before .before .args .r .0) _ (c .before .before .robot-at .ensures) (c .if1 .taken)
 
--- src/placing.rt:26:1
 returns-2 : tie.Need-returns-2
 returns-2 c = stands-is (c .before .before .before .before .robot-at .result .0) (c .before .before .before .before .before .before .args .r .0) _ (c .before .before .before .before .robot-at .ensures) (c .before .before .if1 .left)
 

@@ -12,13 +12,6 @@ use Rattle.clique.specs.Toward.{to-target, to-room, to-rest, to-none}
 use Rattle.clique.specs.Leaving.{made-nothing}
 use Rattle.clique.proofs.toward.go_toward.Statement.{statement}
 use Rattle.clique.proofs.toward.go_toward.Tie as tie
-use Rattle.clique.proofs.toward.go_toward.Reads as reads
-use Rattle.clique.proofs.toward.go_toward.Lts as lts
-use Rattle.clique.proofs.toward.lowest_off.Reads as lowest-off-reads
-use Rattle.clique.proofs.toward.open_target.Reads as open-target-reads
-use Rattle.motion.proofs.cell_at.Reads as cell-at-reads
-use Rattle.motion.proofs.go.Reads as go-reads
-use Rattle.motion.proofs.seek_cell.Reads as seek-cell-reads
 
 abbrev Inv-loop : tie.InvT-loop
 Inv-loop zone cells₀ goal n out₀ run₀ left₀ cells out run left = (length cells ≡ length cells₀) × (length out ≡ length out₀)
@@ -27,35 +20,27 @@ Inv-loop zone cells₀ goal n out₀ run₀ left₀ cells out run left = (length
 abbrev μ-loop : tie.MeasureT-loop
 μ-loop zone cells₀ goal n out₀ run₀ left₀ cells out run left = left
 
--- src/toward.rt:71:5
 loop-holds : tie.Need-loop-holds Inv-loop μ-loop
 loop-holds c = (refl, refl, refl)
 
--- src/toward.rt:72:13
 open-target-requires : tie.Need-open-target-requires Inv-loop μ-loop
 open-target-requires c κs = search needs
 
--- src/toward.rt:73:9
 sub-left : tie.Need-sub-left Inv-loop μ-loop
 sub-left c = search needs
 
--- src/toward.rt:75:17
 cell-at-requires : tie.Need-cell-at-requires Inv-loop μ-loop
 cell-at-requires c κs = search needs
 
--- src/toward.rt:76:17
 seek-cell-requires : tie.Need-seek-cell-requires Inv-loop μ-loop
 seek-cell-requires c κs = search needs
 
--- src/toward.rt:77:13
 go-requires : tie.Need-go-requires Inv-loop μ-loop
 go-requires c κs = search needs
 
--- src/toward.rt:71:5
 loop-less : tie.Need-loop-less Inv-loop μ-loop
 loop-less c = search needs
 
--- src/toward.rt:71:5
 loop-again : tie.Need-loop-again Inv-loop μ-loop
 loop-again c = let a = c .before .before .before .before .before .before .before .before .before .before .before .before .before .before .before .before .before .before .before .args in
     let o = c .before .before .before .before .before .before .before .before .before .before .before .before .before .before .loop in
@@ -70,19 +55,15 @@ loop-again c = let a = c .before .before .before .before .before .before .before
           ∙ o .inv .2,
     )
 
--- src/toward.rt:79:17
 lowest-off-requires : tie.Need-lowest-off-requires Inv-loop μ-loop
 lowest-off-requires c κs = search needs
 
--- src/toward.rt:81:17
 same-length : tie.Need-same-length Inv-loop μ-loop
 same-length c = search needs
 
--- src/toward.rt:81:17
 same-length-2 : tie.Need-same-length-2 Inv-loop μ-loop
 same-length-2 c = search needs
 
--- src/toward.rt:81:17
 returns : tie.Need-returns Inv-loop μ-loop
 returns c = let a = c .before .before .before .before .before .before .before .before .before .before .before .before .args in
     let o = c .before .before .before .before .before .before .before .loop in
@@ -90,23 +71,18 @@ returns c = let a = c .before .before .before .before .before .before .before .b
     (to-rest (o .left) (o .cells) (a .goal .now) (c .before .before .before .before .open-target .result) (c .before .lowest-off .result) (c .before .before .before .before .before .before .loop-test .taken) (c .before .before .before .before .open-target .ensures) (c .before .before .before .if1 .left) (c .before .lowest-off .ensures) (c .if2 .taken))
     ∙ o .inv .2
 
--- src/toward.rt:83:17
 seek-cell-requires-2 : tie.Need-seek-cell-requires-2 Inv-loop μ-loop
 seek-cell-requires-2 c κs = search needs
 
--- src/toward.rt:84:17
 seek-cell-requires-3 : tie.Need-seek-cell-requires-3 Inv-loop μ-loop
 seek-cell-requires-3 c κs = search needs
 
--- src/toward.rt:85:13
 go-requires-2 : tie.Need-go-requires-2 Inv-loop μ-loop
 go-requires-2 c κs = search needs
 
--- src/toward.rt:71:5
 loop-less-2 : tie.Need-loop-less-2 Inv-loop μ-loop
 loop-less-2 c = search needs
 
--- src/toward.rt:71:5
 loop-again-2 : tie.Need-loop-again-2 Inv-loop μ-loop
 loop-again-2 c = let a = c .before .before .before .before .before .before .before .before .before .before .before .before .before .before .before .before .before .before .before .before .before .before .before .args in
     let o = c .before .before .before .before .before .before .before .before .before .before .before .before .before .before .before .before .before .before .loop in
@@ -122,15 +98,12 @@ loop-again-2 c = let a = c .before .before .before .before .before .before .befo
           ∙ o .inv .2,
     )
 
--- src/toward.rt:66:1
 same-length-3 : tie.Need-same-length-3 Inv-loop μ-loop
 same-length-3 c = search needs
 
--- src/toward.rt:66:1
 same-length-4 : tie.Need-same-length-4 Inv-loop μ-loop
 same-length-4 c = search needs
 
--- src/toward.rt:66:1
 returns-2 : tie.Need-returns-2 Inv-loop μ-loop
 returns-2 c = let a = c .before .before .before .before .before .before .args in
     let o = c .before .loop in

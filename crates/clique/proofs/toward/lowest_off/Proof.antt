@@ -7,10 +7,6 @@ use Rattle.spec.specs.Clique.{lowestOff}
 use Rattle.clique.specs.Toward.{off-earlier, off-end}
 use Rattle.clique.proofs.toward.lowest_off.Statement.{statement}
 use Rattle.clique.proofs.toward.lowest_off.Tie as tie
-use Rattle.clique.proofs.toward.lowest_off.Reads as reads
-use Rattle.clique.proofs.toward.lowest_off.Lts as lts
-use Rattle.clique.proofs.counting.least.Reads as least-reads
-use Rattle.clique.proofs.toward.lesser_off.Reads as lesser-off-reads
 
 abbrev Inv-loop : tie.InvT-loop
 Inv-loop cells goal best₀ k₀ best k = (k ≤ min (length cells) (length goal)) × (best ≡ lowestOff (drop k cells) (drop k goal))
@@ -18,35 +14,27 @@ Inv-loop cells goal best₀ k₀ best k = (k ≤ min (length cells) (length goal
 abbrev μ-loop : tie.MeasureT-loop
 μ-loop cells goal best₀ k₀ best k = k
 
--- src/toward.rt:56:9
 least-requires : tie.Need-least-requires Inv-loop μ-loop
 least-requires c κs = search needs
 
--- src/toward.rt:57:5
 loop-holds : tie.Need-loop-holds Inv-loop μ-loop
 loop-holds c = (search needs, off-end (c .before .before .before .args .cells .now) (c .before .before .before .args .goal .now) (c .least .result) (omega (arith, c .least .ensures)))
 
--- src/toward.rt:58:9
 sub-k : tie.Need-sub-k Inv-loop μ-loop
 sub-k c = search needs
 
--- src/toward.rt:59:27
 shared-slice-read-lesser-off : tie.Need-shared-slice-read-lesser-off Inv-loop μ-loop
 shared-slice-read-lesser-off c = search needs
 
--- src/toward.rt:59:37
 shared-slice-read-lesser-off-2 : tie.Need-shared-slice-read-lesser-off-2 Inv-loop μ-loop
 shared-slice-read-lesser-off-2 c = search needs
 
--- src/toward.rt:59:9
 lesser-off-requires : tie.Need-lesser-off-requires Inv-loop μ-loop
 lesser-off-requires c κs = search needs
 
--- src/toward.rt:57:5
 loop-less : tie.Need-loop-less Inv-loop μ-loop
 loop-less c = search needs
 
--- src/toward.rt:57:5
 loop-again : tie.Need-loop-again Inv-loop μ-loop
 loop-again c = let a = c .before .before .before .before .before .before .before .before .args in
     let o = c .before .before .before .before .loop in
@@ -56,7 +44,6 @@ loop-again c = let a = c .before .before .before .before .before .before .before
           (o .inv .1 ∙ ap (λ (i : ℕ). lowestOff (drop i (a .cells .now)) (drop i (a .goal .now))) (sym d)) (c .lesser-off .ensures),
     )
 
--- src/toward.rt:52:1
 returns : tie.Need-returns Inv-loop μ-loop
 returns c = let a = c .before .before .before .before .before .args in
     let o = c .before .loop in

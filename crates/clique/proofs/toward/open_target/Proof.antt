@@ -8,9 +8,6 @@ use mathlib.Core.Logic.{⊎-elim}
 use Rattle.clique.specs.Toward.{open-here, open-further, open-end}
 use Rattle.clique.proofs.toward.open_target.Statement.{statement}
 use Rattle.clique.proofs.toward.open_target.Tie as tie
-use Rattle.clique.proofs.toward.open_target.Reads as reads
-use Rattle.clique.proofs.toward.open_target.Lts as lts
-use Rattle.clique.proofs.counting.least.Reads as least-reads
 
 abbrev Inv-loop : tie.InvT-loop
 Inv-loop cells goal n i₀ i = (i ≤ n) × (n ≡ min (length cells) (length goal)) × (i + openTarget (drop i cells) (drop i goal) ≡ openTarget cells goal)
@@ -18,43 +15,34 @@ Inv-loop cells goal n i₀ i = (i ≤ n) × (n ≡ min (length cells) (length go
 abbrev μ-loop : tie.MeasureT-loop
 μ-loop cells goal n i₀ i = n - i
 
--- src/toward.rt:17:9
 least-requires : tie.Need-least-requires Inv-loop μ-loop
 least-requires c κs = search needs
 
--- src/toward.rt:19:5
 loop-holds : tie.Need-loop-holds Inv-loop μ-loop
 loop-holds c = (search needs, c .least .ensures, omega arith)
 
--- src/toward.rt:20:17
 shared-slice-read-x : tie.Need-shared-slice-read-x Inv-loop μ-loop
 shared-slice-read-x c = search needs
 
--- src/toward.rt:21:17
 shared-slice-read-y : tie.Need-shared-slice-read-y Inv-loop μ-loop
 shared-slice-read-y c = search needs
 
--- src/toward.rt:24:17
 returns : tie.Need-returns Inv-loop μ-loop
 returns c = let a = c .before .before .before .before .before .before .before .before .before .args in
     let o = c .before .before .before .before .before .loop in
     open-here (a .cells .now) (a .goal .now) (o .i) (omega arith) (c .before .if1 .taken) (c .if2 .taken) ∙ o .inv .2
 
--- src/toward.rt:27:9
 add-i : tie.Need-add-i Inv-loop μ-loop
 add-i c = search needs
 
--- src/toward.rt:19:5
 loop-less : tie.Need-loop-less Inv-loop μ-loop
 loop-less c = search needs
 
--- src/toward.rt:19:5
 loop-again : tie.Need-loop-again Inv-loop μ-loop
 loop-again c = let a = c .before .before .before .before .before .before .before .before .args in
     let o = c .before .before .before .before .loop in
     (search needs, o .inv .1, open-further (a .cells .now) (a .goal .now) (o .i) (omega arith) (λ e. ⊎-elim (λ w. absurd (w .1 .left e)) (λ w. omega (arith, w .left)) (c .if1 .came)) ∙ o .inv .2)
 
--- src/toward.rt:14:1
 returns-2 : tie.Need-returns-2 Inv-loop μ-loop
 returns-2 c = let a = c .before .before .before .before .before .args in
     let o = c .before .loop in
