@@ -106,3 +106,31 @@ module _ (s : State) (vs : List ℕ) (j r : ℕ) where
     -- the whole list is laid
     pub following-end : (i : ℕ) (o : List ℕ) → Following off o₀ i o → length vs ≤ i → o ≡ laidAll o₀ off (followed s vs j r)
     following-end i o f h = rw (drop-of-length-le (followed s vs j r) {i = i} (omega (arith, follow-length))) at (f .rest)
+
+-- ---- a step
+
+-- the bytes of a step into place j of the zone with vertices vs: with the follow list where it fills a clique
+unfoldable pub stepFrom : State → List ℕ → ℕ → ℕ → ℕ → ℕ → ℕ → Bool → List ℕ
+stepFrom s vs j r u v behind filled = r ∷ u ∷ v ∷ behind ∷ elim filled [ true ↦ followed s vs j r | false ↦ [] ]
+
+module _ (s : State) (vs : List ℕ) (j r u v behind off : ℕ) (o o₁ o₂ o₃ o₄ : List ℕ) (e₁ : o₁ ≡ laid o off r) (e₂ : o₂ ≡ laid o₁ (off + 1) u)
+    (e₃ : o₃ ≡ laid o₂ (off + 2) v) (e₄ : o₄ ≡ laid o₃ (off + 3) behind) where
+  -- the four bytes, and what follows them
+  four-laid : (rest : List ℕ) → laidAll o₄ (off + 4) rest ≡ laidAll o off (r ∷ u ∷ v ∷ behind ∷ rest)
+  four-laid rest =
+      let a : off + 1 + 1 ≡ off + 2 = omega arith in
+      let b : off + 2 + 1 ≡ off + 3 = omega arith in
+      let d : off + 3 + 1 ≡ off + 4 = omega arith in
+      rw (e₄, e₃, e₂, e₁, a, b, d)
+
+  -- a step of four bytes
+  pub step-short : (filled : Bool) → filled ≡ false
+      → (off + 4 ≡ off + length (stepFrom s vs j r u v behind filled)) × (o₄ ≡ laidAll o off (stepFrom s vs j r u v behind filled))
+  unfolding stepFrom
+  step-short filled e = rw e (refl, four-laid [])
+
+  -- and one with a list
+  pub step-long : (filled : Bool) → filled ≡ true → (o′ : List ℕ) → o′ ≡ laidAll o₄ (off + 4) (followed s vs j r)
+      → (off + 4 + length vs ≡ off + length (stepFrom s vs j r u v behind filled)) × (o′ ≡ laidAll o off (stepFrom s vs j r u v behind filled))
+  unfolding stepFrom
+  step-long filled e o′ h = rw e (omega (arith, follow-length s vs j r), h ∙ four-laid (followed s vs j r))
