@@ -11,9 +11,9 @@ use Rattle.spec.specs.Arrangement.{Move, mv}
 use Rattle.spec.specs.State.{State, moved, movedAll, Step, drawnSteps}
 use Rattle.spec.specs.Terms.{done, _then_, Reachable, SameTuple, Abstract, ends, makes, vertexAt, sizeOf, arrangementIn, zoneCount, kindOf, placeOf}
 use Rattle.theory.specs.Maps.Layout.{Accepted}
-use Rattle.theory.specs.Maps.Moves.{Legal, legal-is, Legals, stay, go}
+use Rattle.theory.specs.Maps.Moves.{Legal, legal-is, Legals, stay, go, silent-move, crossing-move}
 use Rattle.theory.specs.Maps.Consistent.{Consistent}
-use Rattle.theory.specs.Maps.Inside.{arrangement-within, arrangement-away, legal-inside, silent-move, crossing-move}
+use Rattle.theory.specs.Maps.Inside.{arrangement-within, arrangement-away, legal-inside}
 use Rattle.theory.specs.Zones.Moves.{reach-refl, reach-trans}
 use Rattle.theory.specs.Maps.Tracks.{Tracks, tracks-moved}
 
@@ -97,5 +97,5 @@ module _ (m : Map) (g : Accepted m) (k : ℕ) (few : k ≤ 64) where
   list-abstract h (go {s} {x} {xs} l r) = case (ℕ-discrete (zoneOf m (x .from)) (zoneOf m (x .to))) (list-abstract (tracks-moved m g k few s x h l) r)
     where
       case : Dec (zoneOf m (x .from) ≡ zoneOf m (x .to)) → Abstract m (moved s x) (drawnSteps m (moved s x) xs) (movedAll (moved s x) xs) → Abstract m s (drawnSteps m s (x ∷ xs)) (movedAll s (x ∷ xs))
-      case (yes e) ih = rw (silent-move m g s x xs e) (unfold movedAll in abstract-from m s (moved s x) (inside-tuple s x (h .consistent) l e) ih)
-      case (no e) ih = rw (crossing-move m g s x xs e) (unfold movedAll in makes s x record { robots = h .consistent .rooms; vertices = h .places } (tuple-refl m s) (legal-is m s x l) e ih)
+      case (yes e) ih = rw (silent-move m s x xs e) (unfold movedAll in abstract-from m s (moved s x) (inside-tuple s x (h .consistent) l e) ih)
+      case (no e) ih = rw (crossing-move m s x xs e) (unfold movedAll in makes s x record { robots = h .consistent .rooms; vertices = h .places } (tuple-refl m s) (legal-is m s x l) e ih)
