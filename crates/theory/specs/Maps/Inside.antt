@@ -73,7 +73,7 @@ module _ (m : Map) (g : Accepted m) where
       let p = g .placed v h in
       let z = zoneOf m v in
       let l = placeOf m v in
-      cell-injective _ _ (rw (p .2) at (sym (arrangement-cell s (zoneAt m z) l (p .1)) ∙ ap (λ a. cell a l) (e z (p .0)) ∙ arrangement-cell t (zoneAt m z) l (p .1)))
+      cell-injective _ _ (rw (p .vertex) at (sym (arrangement-cell s (zoneAt m z) l (p .place)) ∙ ap (λ a. cell a l) (e z (p .zone)) ∙ arrangement-cell t (zoneAt m z) l (p .place)))
 
   -- ---- moves inside a zone
 

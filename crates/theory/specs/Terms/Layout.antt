@@ -20,7 +20,7 @@ use Rattle.theory.specs.Plans.Resolve.{start-tracks}
 -- an accepted map is zoned
 zoned : (m : Map) → Accepted m → Zoned m
 zoned m g = record {
-  placed = λ v h. let p = g .placed v h in (zoneOf m v, placeOf m v, record { zone = p .0; place = p .1; vertex = p .2 });
+  placed = λ v h. (zoneOf m v, placeOf m v, g .placed v h);
   once = λ v y i z j p q.
       let a = g .inside y i (p .zone) (p .place) in
       let b = g .inside z j (q .zone) (q .place) in
@@ -76,7 +76,7 @@ crossings a b it xs x i l lx n =
     let u = g .placed (x .from) (e .0) in
     let v = g .placed (x .to) (e .1) in
     record {
-      left = arrangement-leave (it .graph) g (movedAll (start it) xs) x _ _ (omega (arith, t .consistent .rooms, g .small)) (u .0) (u .1) (sym (u .2)) (λ q. n (sym q));
-      entered = arrangement-enter (it .graph) g (movedAll (start it) xs) x _ _ (omega (arith, t .consistent .rooms, g .small)) (v .0) (v .1) (sym (v .2)) n (y .robot);
+      left = arrangement-leave (it .graph) g (movedAll (start it) xs) x _ _ (omega (arith, t .consistent .rooms, g .small)) (u .zone) (u .place) (sym (u .vertex)) (λ q. n (sym q));
+      entered = arrangement-enter (it .graph) g (movedAll (start it) xs) x _ _ (omega (arith, t .consistent .rooms, g .small)) (v .zone) (v .place) (sym (v .vertex)) n (y .robot);
       others = λ y h p q. arrangement-away (it .graph) g (movedAll (start it) xs) x y h (λ r. p (sym r)) (λ r. q (sym r));
     }
