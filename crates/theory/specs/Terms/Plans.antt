@@ -11,15 +11,21 @@ use Rattle.spec.specs.Arrangement.{Arrangement, cell, order, lastFree}
 use Rattle.spec.specs.Clique.{named, sameRobots, cliqueCanEnter}
 use Rattle.spec.specs.ZoneKind.{canEnter, leave, enter, end}
 use Rattle.spec.specs.State.{movedAll, drawnSteps}
-use Rattle.spec.specs.Terms.{Leaving, Entering, Ending, start, Ryan, AnyLength, Transitions, fills}
+use Rattle.spec.specs.Terms.{Undoing, Leaving, Entering, Ending, start, Ryan, AnyLength, Transitions, fills}
 use Rattle.theory.specs.Basics.Tests.{and-left, and-right}
 use Rattle.theory.specs.Zones.Arrangements.{count-clear}
 use Rattle.theory.specs.Maps.Moves.{are-legal, legal-all}
 use Rattle.theory.specs.Maps.Instance.{instance-accepted}
 use Rattle.theory.specs.Maps.Tracks.{tracks-all}
+use Rattle.theory.specs.Zones.Moves.{reach-sym}
 use Rattle.theory.specs.Zones.Kinds.{laws}
 use Rattle.theory.specs.Plans.Transition.{ready-applicable, applicable-ready}
 use Rattle.theory.specs.Plans.Resolve.{start-tracks, arrives, abstract-arrives, concrete-abstract, whole}
+
+-- moves inside a zone can be undone
+pub undoing : Undoing
+unfolding Undoing
+undoing kind a b s = reach-sym s
 
 -- a robot may leave exactly where a reachable arrangement has it at from
 pub leaving : Leaving
