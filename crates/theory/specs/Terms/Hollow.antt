@@ -6,31 +6,35 @@ use mathlib.Core.List.{List, [], _∷_, _++_}
 use Prim.Native.Nat.{ℕ, _+_, _≤_, _%_}
 use native.Mathlib.Omega.{arith}
 use lib.ListN.{length, getD, take}
-use lib.Dec.{eqb, lit<}
-use Rattle.spec.specs.Outcome.{ok, _>>=_, _>>_, check, _&&_, _||_, all, u16}
+use lib.Dec.{eqb, ltb, lit<}
+use Rattle.spec.specs.Outcome.{ok, refuse, _>>=_, _>>_, check, _&&_, _||_, all, u16}
 use Rattle.spec.specs.Wire.{fileOf, payloadOf}
 use Rattle.spec.specs.Layout.{Map, zoneOf}
 use Rattle.spec.specs.Arrangement.{Move, mv}
 use Rattle.spec.specs.State.{standing, movedAll, drawnSteps, planPayload, moveBytes, movesPayload}
-use Rattle.spec.specs.Services.{Answer, instanceOf, fits, answerOf, planMoves, judging}
+use Rattle.spec.specs.Services.{Answer, instanceOf, fits, answerOf, planMoves, judging, resolving}
 use Rattle.spec.specs.Terms.{Judging, Writing, Bytes, Within, writes, moveFile, planFile, start, goal, Refuses, Resolves, Drawn, RoundTrip, Sound, Complete}
 use Rattle.theory.specs.Basics.Outcomes.{ok-injective}
 use Rattle.theory.specs.Plans.MoveList.{moves-length}
 use Rattle.theory.specs.Services.Answers.{refusal}
 use Rattle.theory.specs.Services.Replayed.{read-moves}
 use Rattle.theory.specs.Terms.Services.{complete}
-use Rattle.theory.specs.Terms.Yards.{all-bytes, mapA, placingA, planA, bytesA, clearedA, noSteps, bytesNone, mapB, placingB, planB, bytesB, itB, onlyB, same-list}
+use Rattle.theory.specs.Terms.Yards.{all-bytes, mapA, placingA, planA, bytesA, clearedA, noSteps, bytesNone, mapB, placingB, planB, bytesB, stepB, bytesStep, itB, onlyB, same-list}
 
 -- ---- "turns down every plan": demand 3, second half
 
--- every plan is refused
-abbrev pub turnsDown : ℕ → ℕ → Judging
-turnsDown n place a b c = refusal 0 n place
+-- no plan is cleared
+abbrev pub turnsDown : Judging
+turnsDown a b c = refusal 0 50 0
 
--- Yard A's plan is drawn from a legal list to the goals, so it has to be cleared
-pub turnsDown-out : (n place : ℕ) → n ≢ 0 → Complete (turnsDown n place) → ⊥
+-- Yard A's plan is drawn from a legal list to the goals, so whoever turns it down is out
+pub turned-down : (judge : Judging) → judge mapA placingA planA .number ≢ 0 → Complete judge → ⊥
 unfolding Complete
-turnsDown-out n place h t = h (t mapA placingA planA bytesA .1 (complete mapA placingA planA bytesA .0 clearedA))
+turned-down judge n t = n (t mapA placingA planA bytesA .1 (complete mapA placingA planA bytesA .0 clearedA))
+
+-- so is this one
+pub turnsDown-out : Complete turnsDown → ⊥
+turnsDown-out = turned-down turnsDown (λ e. omega arith)
 
 -- ---- "clears all with an empty list": demand 3, goals
 
@@ -38,13 +42,14 @@ turnsDown-out n place h t = h (t mapA placingA planA bytesA .1 (complete mapA pl
 abbrev pub emptyList : Writing
 emptyList a b c room = writes room (moveFile [])
 
--- in Yard B the empty list draws the plan with no steps and is legal, but does not end on the goal
-pub emptyList-out : Sound emptyList → ⊥
+-- the empty list is legal, but in Yard B does not end on the goal: whoever answers with it there is out
+pub answered-empty : (resolve : Writing) (c : List ℕ) → Bytes c → resolve mapB placingB c 512 ≡ writes 512 (moveFile []) → Sound resolve → ⊥
 unfolding Sound
-emptyList-out s =
-    let w = s mapB placingB noSteps 512 bytesNone refl in
-    let e = same-list 512 [] (w .2) small (w .6) (w .7) in
-    let r : movedAll (start itB) [] .vertices ≡ goal itB .vertices = rw (onlyB (w .0) (w .1), e) (w .3 .1) in
+answered-empty resolve c h a s =
+    let w = s mapB placingB c 512 h (ap (λ (x : Answer). x .number) a) in
+    let e = same-list 512 [] (w .2) small (w .6) (sym a ∙ w .7) in
+    let r : movedAll (start itB) [] .vertices ≡ goal itB .vertices
+    = ap (λ it. movedAll (start it) [] .vertices) (onlyB (w .0) (w .1)) ∙ ap (λ xs. movedAll (start (w .0)) xs .vertices) e ∙ w .3 .1 ∙ ap (λ it. goal it .vertices) (sym (onlyB (w .0) (w .1))) in
     off r
   where
     small : Within 128 (moveFile [])
@@ -53,20 +58,33 @@ emptyList-out s =
     off : movedAll (start itB) [] .vertices ≡ goal itB .vertices → ⊥
     off r = unfold movedAll standing itB in absurd (let z : _≡_ {A = ℕ} 0 1 = ap (λ l. getD l 0 0) r in omega arith)
 
+-- also for the plan with no steps, whose crossings are those of the empty list
+pub emptyList-out : Sound emptyList → ⊥
+emptyList-out = answered-empty emptyList noSteps bytesNone refl
+
 -- ---- "returns 0 and writes nothing": demand 2
 
--- every plan is answered with 0 and no bytes
-abbrev pub writesNothing : Writing
-writesNothing a b c room = writes room []
+-- plans are refused as they should be, and the others answered with 0 and no bytes
+unfoldable pub writesNothing : Writing
+writesNothing a b c room = elim (planMoves a b c) [ ok ms ↦ writes room [] | refuse n place ↦ refusal room n place ]
 
--- two plans can't both be drawn from what was written for either, whatever draws
+-- in Yard B two plans are cleared, and can't both be drawn from no bytes, whatever draws
 pub writesNothing-out : (draw : Writing) → RoundTrip writesNothing draw → ⊥
 unfolding RoundTrip
 writesNothing-out draw t =
-    let one = t [] [] [] 0 1 (λ i. lit< tt) refl (omega arith) in
-    let two = t [] [] (0 ∷ []) 0 1 (all-bytes (0 ∷ []) (unfold all in tt)) refl (omega arith) in
-    let z : _≡_ {A = ℕ} 0 1 = ap (λ (x : Answer). x .value) (sym one ∙ two) in
-    omega arith
+    let one = t mapB placingB stepB 512 512 bytesStep (ap (λ (x : Answer). x .number) first) (unfold stepB fileOf in lit< tt) in
+    let two = t mapB placingB planB 512 512 bytesB (ap (λ (x : Answer). x .number) second) (unfold planB fileOf in lit< tt) in
+    let same : writes 512 stepB ≡ writes 512 planB = sym one ∙ ap (λ (x : Answer). draw mapB placingB (take (x .value) (x .buffer)) 512) (first ∙ sym second) ∙ two in
+    off (ap (λ (x : Answer). getD (x .buffer) 7 0) same)
+  where
+    first : writesNothing mapB placingB stepB 512 ≡ writes 512 []
+    first = unfold writesNothing mapB placingB stepB fileOf planMoves _>>=_ _>>_ check _&&_ _||_ in refl
+
+    second : writesNothing mapB placingB planB 512 ≡ writes 512 []
+    second = unfold writesNothing mapB placingB planB fileOf planMoves _>>=_ _>>_ check _&&_ _||_ in refl
+
+    off : getD (writes 512 stepB .buffer) 7 0 ≡ getD (writes 512 planB .buffer) 7 0 → ⊥
+    off e = let z : _≡_ {A = ℕ} 1 3 = unfold stepB planB fileOf in e in omega arith
 
 -- ---- "works out step one, skips later crossings": demand 3, crossings
 
@@ -148,16 +166,28 @@ invented-out draw d t =
 abbrev pub early : ℕ → Writing
 early n a b c room = refusal room n 0
 
--- files of length 0 are 11 before they are 60 or 61
-pub early-out : (n : ℕ) → 60 ≤ n → Refuses judging (early n) → ⊥
+-- a short buffer is 60 whatever the files are
+unfoldable pub shortFirst : Writing
+shortFirst a b c room = elim (ltb room 512) [ true ↦ refusal room 60 0 | false ↦ resolving a b c room ]
+
+-- files of length 0 are 11: whoever says 60 or 61 of them is out
+pub said-early : (resolve : Writing) → 60 ≤ resolve [] [] [] 0 .number → Refuses judging resolve → ⊥
 unfolding Refuses
-early-out n h t =
+said-early resolve h t =
     let e = t [] [] [] 0 (λ z. let y : _≡_ {A = ℕ} 11 0 = sym eleven ∙ z in omega arith) .0 in
-    let z : n ≡ 11 = e ∙ eleven in
+    let z : resolve [] [] [] 0 .number ≡ 11 = e ∙ eleven in
     omega arith
   where
     eleven : judging [] [] [] .number ≡ 11
     eleven = unfold judging _>>=_ _>>_ check _&&_ in refl
+
+-- so is this one
+pub early-out : (n : ℕ) → 60 ≤ n → Refuses judging (early n) → ⊥
+early-out n h = said-early (early n) h
+
+-- and this one
+pub shortFirst-out : Refuses judging shortFirst → ⊥
+shortFirst-out = said-early shortFirst (unfold shortFirst in lit< tt)
 
 -- nor does Yard B's list need more than the 512 bytes that are there
 pub early-short : (n : ℕ) → 60 ≤ n → Resolves judging (early n) → ⊥

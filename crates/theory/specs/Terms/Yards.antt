@@ -74,6 +74,15 @@ pub bytesB : Bytes planB
 unfolding planB fileOf all
 bytesB = all-bytes planB tt
 
+-- a plan that goes there alone
+unfoldable pub stepB : List ℕ
+stepB = fileOf 3 (0 ∷ 1 ∷ 0 ∷ 0 ∷ 1 ∷ 255 ∷ [])
+
+-- it is bytes
+pub bytesStep : Bytes stepB
+unfolding stepB fileOf all
+bytesStep = all-bytes stepB tt
+
 -- its map and placing as they are read
 unfoldable pub itB : Instance
 itB = record {
