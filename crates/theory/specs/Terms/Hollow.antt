@@ -11,9 +11,9 @@ use Rattle.spec.specs.Outcome.{ok, refuse, _>>=_, _>>_, check, _&&_, _||_, all,
 use Rattle.spec.specs.Wire.{fileOf, payloadOf}
 use Rattle.spec.specs.Layout.{Map, zoneOf}
 use Rattle.spec.specs.Arrangement.{Move, mv}
-use Rattle.spec.specs.State.{standing, movedAll, drawnSteps, planPayload, moveBytes, movesPayload}
+use Rattle.spec.specs.State.{standing, movedAll, legalAll, drawnSteps, planPayload, moveBytes, movesPayload}
 use Rattle.spec.specs.Services.{Answer, instanceOf, fits, answerOf, planMoves, judging, resolving}
-use Rattle.spec.specs.Terms.{Judging, Writing, Bytes, Within, writes, moveFile, planFile, start, goal, Refuses, Resolves, Drawn, RoundTrip, Sound, Complete}
+use Rattle.spec.specs.Terms.{Judging, Writing, Bytes, Within, writes, moveFile, planFile, start, goal, Reaches, Refuses, Resolves, Drawn, RoundTrip, Sound, Complete}
 use Rattle.theory.specs.Basics.Outcomes.{ok-injective}
 use Rattle.theory.specs.Plans.MoveList.{moves-length}
 use Rattle.theory.specs.Services.Answers.{refusal}
@@ -102,7 +102,12 @@ stepOne m (x ∷ xs) = elim (eqb (zoneOf m (x .from)) (zoneOf m (x .to))) [ true
 unfoldable pub skipsLater : Writing
 skipsLater a b c room = answerOf room (instanceOf a b >>= λ it. planMoves a b c >>= λ ms. fits 4 128 room (movesPayload (stepOne (it .graph) ms)))
 
--- in Yard B the first of three steps reaches the goal, but the plan drawn from it has one step
+-- in Yard B that is a legal list to the goal
+pub skipsLater-reaches : Reaches itB (mv 0 0 1 ∷ [])
+unfolding itB standing movedAll legalAll _&&_
+skipsLater-reaches = (tt, refl)
+
+-- but the plan drawn from it has one step
 pub skipsLater-out : Sound skipsLater → ⊥
 unfolding Sound
 skipsLater-out s =
