@@ -80,13 +80,14 @@ fn raise_all(
     ensures { λ q. ⌜ worldOf q (now (out .exit)) ≡ madeAll (worldOf run (now (out .entry))) (across (now (zone .entry)) (raising (tripsOf (now (robots .entry)) (now (places .entry)) (now (goals .entry)) n))) ⌝ }
 {
     let mut run = run;
-    let mut i = n;
-    while 0 < i {
-        i -= 1;
+    let mut left = n;
+    while 0 < left {
+        let i = left - 1;
         let r = robots[i];
         let p = places[i];
         let q = goals[i];
         run = raise(run, zone, Robot(r), p as usize, q as usize, out);
+        left -= 1;
     }
     run
 }
