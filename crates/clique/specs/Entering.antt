@@ -162,6 +162,15 @@ pub entered-numbered : (s : State) (vs : List ℕ) (r j behind : ℕ) (list : Li
 entered-numbered s vs r j behind list e d i n q =
     named-nobody s vs list j i n q (entered (arrangementOf s vs) r j behind list (of-true e) (sym d))
 
+-- what a caller of `enter` has: the step was let in, and the list is empty where the clique is not filled
+pub enter-allowed : (s : State) (vs : List ℕ) (r j behind : ℕ) (list : List ℕ)
+    → cliqueCanEnter (arrangementOf s vs) r j behind list ≡ true → (lastFree (arrangementOf s vs) ≡ false → list ≡ []) → Numbered list j
+enter-allowed s vs r j behind list e none = pick (lastFree (arrangementOf s vs)) refl
+  where
+    pick : (b : Bool) → lastFree (arrangementOf s vs) ≡ b → Numbered list j
+    pick true d = entered-numbered s vs r j behind list e d
+    pick false d = rw (none d) (numbered-none j)
+
 -- ---- the follow list of a drawn plan
 
 robots-cons : (x : ℕ) (a : Arrangement) → robotsOf (cellOf x ∷ a) ≡ x ∷ robotsOf a
