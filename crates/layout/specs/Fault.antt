@@ -1,0 +1,92 @@
+-- Document 01's number and place for each refusal of a map.
+use mathlib.Core.Path.{_≡_, refl, ap, sym, _∙_}
+use mathlib.Core.Bool.{Bool, true, false}
+use Prim.Native.Nat.{ℕ}
+use native.Mathlib.Omega.{arith}
+use Rattle.spec.specs.Outcome.{Outcome, ok, refuse, _>>=_, _>>_}
+use Rattle.layout.specs.declared.MapFault.{MapFault}
+use Rattle.layout.specs.declared.MapFault.the-variants.{None, Length, Checksum, Head, Fill, Short, Range, Listing, Edge, Kind}
+
+-- what was read, or the refusal
+abbrev pub answered : {A : Type 0} → MapFault → A → Outcome A
+answered None a = ok a
+answered Length a = refuse 11 0
+answered (Checksum block) a = refuse 12 block
+answered (Head block) a = refuse 13 block
+answered (Fill block) a = refuse 14 block
+answered (Short offset) a = refuse 15 offset
+answered (Range offset) a = refuse 16 offset
+answered (Listing offset) a = refuse 17 offset
+answered (Edge offset) a = refuse 18 offset
+answered (Kind zone) a = refuse 19 zone
+
+abbrev pub soundOf : MapFault → Bool
+soundOf None = true
+soundOf Length = false
+soundOf (Checksum block) = false
+soundOf (Head block) = false
+soundOf (Fill block) = false
+soundOf (Short offset) = false
+soundOf (Range offset) = false
+soundOf (Listing offset) = false
+soundOf (Edge offset) = false
+soundOf (Kind zone) = false
+
+-- the two tests' values differ
+pub not-both {ℓ} : {A : Type ℓ} {b : Bool} → b ≡ true → b ≡ false → A
+not-both {A} {b} e f = absurd (let z : _≡_ {A = ℕ} (elim true as (λ _. ℕ) [ true ↦ 0 | false ↦ 1 ]) (elim false as (λ _. ℕ) [ true ↦ 0 | false ↦ 1 ]) = ap (λ (x : Bool). elim x as (λ _. ℕ) [ true ↦ 0 | false ↦ 1 ]) (sym e ∙ f) in omega arith)
+
+-- no fault is None
+pub sound-none : (f : MapFault) → soundOf f ≡ true → f ≡ None
+sound-none None e = refl
+sound-none Length e = not-both e refl
+sound-none (Checksum b) e = not-both e refl
+sound-none (Head b) e = not-both e refl
+sound-none (Fill b) e = not-both e refl
+sound-none (Short o) e = not-both e refl
+sound-none (Range o) e = not-both e refl
+sound-none (Listing o) e = not-both e refl
+sound-none (Edge o) e = not-both e refl
+sound-none (Kind z) e = not-both e refl
+
+-- what was read with no fault
+pub given : {A : Type 0} (o : Outcome A) (f : MapFault) (a : A) → o ≡ answered f a → soundOf f ≡ true → o ≡ ok a
+given o f a e s = e ∙ ap (λ (g : MapFault). answered g a) (sound-none f s)
+
+-- a fault's number and place, whatever was to be read
+pub record Refused (f : MapFault) : Type 1 where
+  pub number : ℕ
+  pub place : ℕ
+  pub is : {A : Type 0} (a : A) → answered f a ≡ refuse number place
+
+pub refused : (f : MapFault) → soundOf f ≡ false → Refused f
+refused None s = not-both refl s
+refused Length s = record { number = 11; place = 0; is = λ a. refl }
+refused (Checksum i) s = record { number = 12; place = i; is = λ a. refl }
+refused (Head i) s = record { number = 13; place = i; is = λ a. refl }
+refused (Fill i) s = record { number = 14; place = i; is = λ a. refl }
+refused (Short i) s = record { number = 15; place = i; is = λ a. refl }
+refused (Range i) s = record { number = 16; place = i; is = λ a. refl }
+refused (Listing i) s = record { number = 17; place = i; is = λ a. refl }
+refused (Edge i) s = record { number = 18; place = i; is = λ a. refl }
+refused (Kind i) s = record { number = 19; place = i; is = λ a. refl }
+
+module _ {A B : Type 0} where
+  -- a step that gives a value hands it on
+  pub handed : (o : Outcome A) (f : MapFault) (a : A) (g : A → Outcome B) → o ≡ answered f a → soundOf f ≡ true → (o >>= g) ≡ g a
+  unfolding _>>=_
+  handed o f a g e s = rw (e, sound-none f s)
+
+  -- a step that is refused ends the chain
+  pub relayed : (o : Outcome A) (f : MapFault) (a : A) (g : A → Outcome B) (b : B) → o ≡ answered f a → soundOf f ≡ false → (o >>= g) ≡ answered f b
+  unfolding _>>=_
+  relayed o f a g b e s = let r = refused f s in ap (λ (x : Outcome A). x >>= g) (e ∙ r .is a) ∙ sym (r .is b)
+
+  -- the same where the value is not used
+  pub handed-on : (o : Outcome A) (f : MapFault) (a : A) (g : Outcome B) → o ≡ answered f a → soundOf f ≡ true → (o >> g) ≡ g
+  unfolding _>>_
+  handed-on o f a g e s = rw (e, sound-none f s)
+
+  pub relayed-on : (o : Outcome A) (f : MapFault) (a : A) (g : Outcome B) (b : B) → o ≡ answered f a → soundOf f ≡ false → (o >> g) ≡ answered f b
+  unfolding _>>_
+  relayed-on o f a g b e s = let r = refused f s in ap (λ (x : Outcome A). x >> g) (e ∙ r .is a) ∙ sym (r .is b)

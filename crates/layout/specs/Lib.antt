@@ -1,0 +1,9 @@
+pub mod Fault
+pub mod Bytes
+pub mod Heads
+pub mod Table
+pub mod Zones
+pub mod Edges
+pub mod Kinds
+pub mod Map
+pub mod Tables

@@ -1,0 +1,141 @@
+// The whole map.
+use crate::MapFault;
+use crate::MapRead;
+use crate::ZonesRead;
+ghost use mathlib.Core.Path.{_≡_};
+ghost use mathlib.Core.Bool.{true};
+ghost use Prim.Native.Nat.{ℕ, _+_, _*_, _<_, _≤_};
+ghost use Rattle.spec.specs.Layout.{Map, kindsFrom, mapOf};
+ghost use Rattle.adjacency.specs.Rows.{blank};
+ghost use Rattle.layout.specs.Fault.{answered, soundOf};
+ghost use Rattle.layout.specs.Bytes.{held};
+ghost use Rattle.layout.specs.Zones.{headsOf, zonesIn, ZonesFound};
+ghost use Rattle.layout.specs.Kinds.{Ready};
+ghost use Rattle.layout.specs.Map.{mapIn, Nothing, RestIs, LayoutIs, MapIs};
+
+// The lowest zone that is not of its kind.
+fn test_kinds(rows: &[[u64; 2]; 128], read: ZonesRead, count: usize) -> MapFault
+    requires { ⌜ count ≤ 64 ⌝ }
+    ensures { λ r. ⌜ ((m : Map) → Ready (now (rows .entry)) m (headsOf read) (read .listed) (read .zone) count → kindsFrom m 0 (zonesIn (headsOf read) (read .listed) count) ≡ answered r tt) ⌝ }
+{
+    let listed = read.listed;
+    let zone = read.zone;
+    let mut i: usize = 0;
+    while i < count {
+        let kind = read.kind[i];
+        let first = read.first[i];
+        let size = read.size[i];
+        if !kinds::of_kind(
+            rows,
+            &listed,
+            &zone,
+            numbering::Zone(i as u8),
+            kind,
+            first as usize,
+            size as usize,
+        ) {
+            return MapFault::Kind(i);
+        }
+        i += 1;
+    }
+    MapFault::None
+}
+
+// Reads the edges behind the zones, and tests the zones' kinds.
+fn read_rest(
+    file: &[u8],
+    m: usize,
+    n: usize,
+    read: ZonesRead,
+    z: usize,
+    rows: &mut [[u64; 2]; 128],
+) -> MapFault
+    requires { ⌜ (m ≤ 65000) × (n ≤ 128) × (z ≤ 64) ⌝ }
+    requires { ⌜ ZonesFound (held (now file) m) n z read × (soundOf (read .fault) ≡ true) × (now rows ≡ blank) ⌝ }
+    ensures { λ r. ⌜ RestIs (now (file .entry)) m n read z (now (rows .exit)) r ⌝ }
+{
+    let fault = crate::edges::edges_of(file, m, n, read.next, rows);
+    if !crate::sound(fault) {
+        return fault;
+    }
+    test_kinds(rows, read, z)
+}
+
+// Nothing is read.
+fn refused(fault: MapFault) -> MapRead
+    ensures { λ r. ⌜ Nothing fault r ⌝ }
+{
+    MapRead {
+        fault: fault,
+        vertices: 0,
+        zones: 0,
+        kind: [0u8; 64],
+        first: [0u8; 64],
+        size: [0u8; 64],
+        listed: [0u8; 128],
+        zone: [255u8; 128],
+        place: [0u8; 128],
+    }
+}
+
+// Reads a map from a payload of m bytes.
+fn read_layout(file: &[u8], m: usize, rows: &mut [[u64; 2]; 128]) -> MapRead
+    requires { ⌜ (m ≤ 65000) × (now rows ≡ blank) ⌝ }
+    ensures { λ r. ⌜ LayoutIs (mapOf (held (now (file .entry)) m)) r (now (rows .exit)) ⌝ }
+{
+    let counts = crate::heads::read_counts(file, m);
+    let uncounted = counts.fault;
+    if !crate::sound(uncounted) {
+        return refused(uncounted);
+    }
+    let n = counts.vertices;
+    let z = counts.zones;
+    let read = crate::zones::zones_of(file, m, n as usize, z as usize);
+    let unzoned = read.fault;
+    if !crate::sound(unzoned) {
+        return refused(unzoned);
+    }
+    let fault = read_rest(file, m, n as usize, read, z as usize, rows);
+    if !crate::sound(fault) {
+        return refused(fault);
+    }
+    let kind = read.kind;
+    let first = read.first;
+    let size = read.size;
+    let listed = read.listed;
+    let zone = read.zone;
+    let place = read.place;
+    MapRead {
+        fault: MapFault::None,
+        vertices: n,
+        zones: z,
+        kind: kind,
+        first: first,
+        size: size,
+        listed: listed,
+        zone: zone,
+        place: place,
+    }
+}
+
+// Reads a map file: the map, with its edges in the rows; or why it is refused, with no edge in the rows.
+pub fn read_map(file: &[u8], rows: &mut [[u64; 2]; 128]) -> MapRead
+    ensures { λ r. ⌜ MapIs (mapIn (now (file .entry))) r (now (rows .exit)) ⌝ }
+{
+    adjacency::clear(rows);
+    let checked = wire::check_file(file, 1, 9);
+    let m = match checked {
+        wire::Checked::Payload(m) => m,
+        wire::Checked::Length => return refused(MapFault::Length),
+        wire::Checked::Checksum(i) => return refused(MapFault::Checksum(i)),
+        wire::Checked::Head(i) => return refused(MapFault::Head(i)),
+        wire::Checked::Fill(i) => return refused(MapFault::Fill(i)),
+    };
+    let read = read_layout(file, m, rows);
+    let fault = read.fault;
+    if !crate::sound(fault) {
+        adjacency::clear(rows);
+        return read;
+    }
+    read
+}
