@@ -1,0 +1,20 @@
+use borrow.Author.Needs.{needs}
+use Rattle.motion.specs.States.{stateOf}
+use Rattle.clique.specs.Counts.{last-free-none, last-free-is}
+use Rattle.clique.proofs.counting.last_free.Statement.{statement}
+use Rattle.clique.proofs.counting.last_free.Tie as tie
+
+returns : tie.Need-returns
+returns c = last-free-none (stateOf (c .before .before .args .s)) (c .before .before .args .zone .now) (c .if1 .taken)
+
+count-robots-requires : tie.Need-count-robots-requires
+count-robots-requires c κs = search needs
+
+sub-result : tie.Need-sub-result
+sub-result c = search needs
+
+returns-2 : tie.Need-returns-2
+returns-2 c = last-free-is (stateOf (c .before .before .before .args .s)) (c .before .before .before .args .zone .now) (c .count-robots .result) (c .count-robots .ensures) (c .before .if1 .left)
+
+pub last-free-spec : {M : Type 1} → statement M
+last-free-spec = tie.close (tie.spec returns count-robots-requires sub-result returns-2)

@@ -1,0 +1,39 @@
+use borrow.Author.Needs.{needs}
+use mathlib.Core.Path.{sym}
+use lib.ListN.{length}
+use Rattle.clique.specs.Comparing.{cells-length}
+use Rattle.clique.proofs.ending.bring_to_goals.Statement.{statement}
+use Rattle.clique.proofs.ending.bring_to_goals.Tie as tie
+
+array-borrow-prefix-cells : tie.Need-array-borrow-prefix-cells
+array-borrow-prefix-cells c = search needs
+
+slice-aggregate-end-in : tie.Need-slice-aggregate-end-in
+slice-aggregate-end-in c = sym (cells-length (length (c .before .before .before .args .zone .now)) (c .before .before .before .pre))
+
+array-borrow-prefix-goal : tie.Need-array-borrow-prefix-goal
+array-borrow-prefix-goal c = search needs
+
+slice-aggregate-end-in-2 : tie.Need-slice-aggregate-end-in-2
+slice-aggregate-end-in-2 c = sym (cells-length (length (c .before .before .before .before .args .zone .now)) (c .before .before .before .before .pre))
+
+end-in-requires : tie.Need-end-in-requires
+end-in-requires c κs = let e = cells-length (length (c .before .before .before .before .before .args .zone .now)) (c .before .before .before .before .before .pre) in (c .before .before .before .before .before .pre, e, e)
+
+same-length : tie.Need-same-length
+same-length c = search needs
+
+returns : tie.Need-returns
+returns c = c .before .before .before .before .end-in .ensures
+
+pub bring-to-goals-spec : {M : Type 1} → statement M
+bring-to-goals-spec =
+    tie.close
+    (tie.spec
+    array-borrow-prefix-cells
+    slice-aggregate-end-in
+    array-borrow-prefix-goal
+    slice-aggregate-end-in-2
+    end-in-requires
+    same-length
+    returns)

@@ -1,0 +1,22 @@
+use borrow.Author.Needs.{needs}
+use Prim.Native.Nat.{ℕ}
+use mathlib.Core.Path.{ap, _∙_}
+use Rattle.spec.specs.Arrangement.{seek}
+use Rattle.spec.specs.State.{arrangementOf}
+use Rattle.motion.specs.States.{stateOf}
+use Rattle.clique.specs.Places.{seek-nobody}
+use Rattle.theory.specs.Maps.State.{cell-of}
+use Rattle.clique.proofs.placing.place_of.Statement.{statement}
+use Rattle.clique.proofs.placing.place_of.Tie as tie
+
+returns : tie.Need-returns
+returns c = seek-nobody (stateOf (c .before .before .before .args .s)) (c .before .before .before .args .zone .now) (c .before .before .before .args .r .0) (c .if1 .taken)
+
+seek-robot-requires : tie.Need-seek-robot-requires
+seek-robot-requires c κs = search needs
+
+returns-2 : tie.Need-returns-2
+returns-2 c = c .seek-robot .ensures ∙ ap (λ (x : ℕ). seek x (arrangementOf (stateOf (c .before .before .before .before .args .s)) (c .before .before .before .before .args .zone .now))) (cell-of (c .before .if1 .left))
+
+pub place-of-spec : {M : Type 1} → statement M
+place-of-spec = tie.close (tie.spec returns seek-robot-requires returns-2)

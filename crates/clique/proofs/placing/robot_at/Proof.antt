@@ -1,0 +1,20 @@
+use borrow.Author.Needs.{needs}
+use Rattle.motion.specs.States.{stateOf}
+use Rattle.clique.specs.Places.{robot-here, robot-past}
+use Rattle.clique.proofs.placing.robot_at.Statement.{statement}
+use Rattle.clique.proofs.placing.robot_at.Tie as tie
+
+shared-slice-read-t7 : tie.Need-shared-slice-read-t7
+shared-slice-read-t7 c = search needs
+
+robot-on-requires : tie.Need-robot-on-requires
+robot-on-requires c κs = search needs
+
+returns : tie.Need-returns
+returns c = robot-here (stateOf (c .before .before .before .before .args .s)) (c .before .before .before .before .args .zone .now) (c .before .before .before .before .args .j) (c .robot-on .result .0) (c .before .before .if1 .taken) (c .robot-on .ensures)
+
+returns-2 : tie.Need-returns-2
+returns-2 c = robot-past (stateOf (c .before .before .args .s)) (c .before .before .args .zone .now) (c .before .before .args .j) (c .if1 .left)
+
+pub robot-at-spec : {M : Type 1} → statement M
+robot-at-spec = tie.close (tie.spec shared-slice-read-t7 robot-on-requires returns returns-2)

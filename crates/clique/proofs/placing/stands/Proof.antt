@@ -1,0 +1,16 @@
+use borrow.Author.Needs.{needs}
+use Rattle.clique.specs.Places.{stands-not, stands-is}
+use Rattle.clique.proofs.placing.stands.Statement.{statement}
+use Rattle.clique.proofs.placing.stands.Tie as tie
+
+robot-at-requires : tie.Need-robot-at-requires
+robot-at-requires c κs = search needs
+
+returns : tie.Need-returns
+returns c = stands-not (c .before .before .robot-at .result .0) (c .before .before .before .before .args .r .0) _ (c .before .before .robot-at .ensures) (c .if1 .taken)
+
+returns-2 : tie.Need-returns-2
+returns-2 c = stands-is (c .before .before .before .before .robot-at .result .0) (c .before .before .before .before .before .before .args .r .0) _ (c .before .before .before .before .robot-at .ensures) (c .before .before .if1 .left)
+
+pub stands-spec : {M : Type 1} → statement M
+stands-spec = tie.close (tie.spec robot-at-requires returns returns-2)

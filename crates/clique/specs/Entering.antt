@@ -1,0 +1,199 @@
+-- Entering a clique, the follow list as an arrangement, and the follow list that a drawn plan has.
+use mathlib.Core.Path.{_≡_, refl, ap, ap₂, sym, _∙_}
+use mathlib.Core.Logic.{_≢_}
+use mathlib.Core.Bool.{Bool, true, false}
+use Prim.Native.Nat.{ℕ, zero, suc, _+_, _-_, _*_, _<_, _≤_}
+use mathlib.Core.List.{List, [], _∷_, map}
+use native.Mathlib.Numerals.{add-one}
+use native.Mathlib.Omega.{arith}
+use native.Mathlib.Decide.{decLt, ℕ-discrete}
+use lib.ListN.{length, getD, set, drop, length-map, length-set, List·getD-eq-default}
+use lib.Seq.{drop-cons, getD-set-other, set-out}
+use lib.Dec.{T, eqb}
+use borrow.Author.Tests.{eq-eqb, ne-eqb}
+use Rattle.spec.specs.Outcome.{_&&_}
+use Rattle.spec.specs.Arrangement.{Arrangement, Move, cell, lastFree}
+use Rattle.spec.specs.Clique.{named, sameRobots, makeRoom, cliqueTo, cliqueCanEnter, cliqueEnter}
+use Rattle.spec.specs.State.{State, robotOn, cellOf, arrangementOf, robotsOf}
+use Rattle.theory.specs.Basics.Lists.{getD-map}
+use Rattle.theory.specs.Basics.Tests.{false-of, of-true, of-false, and-right}
+use Rattle.theory.specs.Maps.State.{cell-of, cell-none}
+use Rattle.theory.specs.Zones.Arrangements.{cell-inside}
+use Rattle.theory.specs.Zones.Robots.{SameRobots, same-robots}
+use Rattle.motion.specs.Cells.{overlaid}
+use Rattle.motion.specs.Across.{arrangement-length, arrangement-at}
+use Rattle.clique.specs.Counts.{eqb-suc}
+use Rattle.clique.specs.Places.{cell-under}
+
+-- a list mapped, from place k on
+pub map-next : (f : ℕ → ℕ) (l : List ℕ) (k x : ℕ) → k < length l → x ≡ f (getD l k 0) → drop k (map f l) ≡ x ∷ drop (k + 1) (map f l)
+map-next f l k x h e =
+    drop-cons (map f l) k 0 (omega (arith, length-map l f))
+    ∙ ap₂ (λ (y n : ℕ). y ∷ drop n (map f l)) (getD-map f l k h ∙ sym e) (sym (add-one k))
+
+-- ---- follow lists
+
+-- every name of a follow list but the one at place j is a robot's
+abbrev pub Numbered : List ℕ → ℕ → Type 0
+Numbered list j = (i : ℕ) → i ≢ j → getD list i 0 ≢ 255
+
+-- an empty list names nobody
+pub numbered-none : (j : ℕ) → Numbered [] j
+numbered-none j i n e = absurd (omega arith)
+
+-- one name more
+pub numbered-more : (list : List ℕ) (j k : ℕ) → ((i : ℕ) → i < k → i ≢ j → getD list i 0 ≢ 255) → (k ≢ j → getD list k 0 ≢ 255)
+    → (i : ℕ) → i < k + 1 → i ≢ j → getD list i 0 ≢ 255
+numbered-more list j k h last i l n e = pick (ℕ-discrete i k)
+  where
+    pick : Dec (i ≡ k) → ⊥
+    pick (yes q) = last (λ d. n (q ∙ d)) (ap (λ (x : ℕ). getD list x 0) (sym q) ∙ e)
+    pick (no q) = h i (omega arith) n e
+
+-- all names
+pub numbered-all : (list : List ℕ) (j k : ℕ) → length list ≤ k → ((i : ℕ) → i < k → i ≢ j → getD list i 0 ≢ 255) → Numbered list j
+numbered-all list j k l h i n e = pick (decLt i k)
+  where
+    pick : Dec (i < k) → ⊥
+    pick (yes q) = h i q n e
+    pick (no q) = absurd (omega (arith, sym e ∙ List·getD-eq-default list 0 {n = i} (omega arith)))
+
+-- a test that passed did not fail
+pub never : true ≡ false → ⊥
+never e = of-false {b = true} e tt
+
+-- the names as cells, as the code reads them
+plain : (list : List ℕ) → ((i : ℕ) → getD list i 0 ≢ 255) → map cellOf list ≡ named list
+unfolding named
+plain [] h = refl
+plain (x ∷ l) h = ap₂ (λ (c : ℕ) (a : Arrangement). c ∷ a) (cell-of (h 0)) (plain l (λ i. h (suc i)))
+
+pub named-cells : (list : List ℕ) (j : ℕ) → Numbered list j → set (map cellOf list) j 0 ≡ set (named list) j 0
+unfolding named
+named-cells [] j h = refl
+named-cells (x ∷ l) zero h = ap (λ (a : Arrangement). 0 ∷ a) (plain l (λ i. h (suc i) (λ q. omega arith)))
+named-cells (x ∷ l) (suc j) h =
+    ap₂ (λ (c : ℕ) (a : Arrangement). c ∷ a) (cell-of (h 0 (λ q. omega arith))) (named-cells l j (λ i n. h (suc i) (λ q. n (omega arith))))
+
+-- what a follow list names at a place
+pub named-at : (list : List ℕ) (j : ℕ) → j < length list → cell (named list) j ≡ suc (getD list j 0)
+unfolding named
+named-at list j h = getD-map suc list j h
+
+pub named-is : (list : List ℕ) (j r : ℕ) → j < length list → eqb (getD list j 0) r ≡ eqb (cell (named list) j) (suc r)
+named-is list j r h = eqb-suc (getD list j 0) r ∙ ap (λ (x : ℕ). eqb x (suc r)) (sym (named-at list j h))
+
+pub named-past : (list : List ℕ) (j r : ℕ) → length list ≤ j → false ≡ eqb (cell (named list) j) (suc r)
+unfolding named
+named-past list j r h =
+    let e : cell (named list) j ≡ 0 = List·getD-eq-default (map suc list) 0 (omega (arith, length-map list suc)) in
+    let n : (cell (named list) j ≡ suc r → ⊥) = λ q. omega arith in
+    sym (ne-eqb _ _ n)
+
+-- nobody in a zone is robot 255: a list that names it there is not met
+pub named-nobody : (s : State) (vs list : List ℕ) (j i : ℕ) → i ≢ j → getD list i 0 ≡ 255
+    → T (sameRobots (arrangementOf s vs) (set (named list) j 0)) → ⊥
+named-nobody s vs list j i n e t = gone (same-robots a g t .back i 255 there)
+  where
+    a : Arrangement
+    a = arrangementOf s vs
+
+    g : Arrangement
+    g = set (named list) j 0
+
+    short : Dec (i < length list) → i < length list
+    short (yes h) = h
+    short (no h) = absurd (omega (arith, sym e ∙ List·getD-eq-default list 0 {n = i} (omega arith)))
+
+    there : cell g i ≡ suc 255
+    there = getD-set-other (named list) j i 0 0 n ∙ named-at list i (short (decLt i (length list))) ∙ ap suc e
+
+    gone : (q : ℕ) × (cell a q ≡ suc 255) → ⊥
+    gone (q, d) =
+        let h : q < length vs = omega (arith, cell-inside a q 255 d, arrangement-length s vs) in
+        cell-under (robotOn s (getD vs q 0)) (sym d ∙ arrangement-at s vs q h)
+
+-- ---- entering
+
+module _ (a : Arrangement) (r j behind : ℕ) (list : List ℕ) where
+  -- somebody is named behind
+  pub enter-behind : behind ≢ 255 → false ≡ cliqueCanEnter a r j behind list
+  unfolding cliqueCanEnter _&&_
+  enter-behind n = sym (rw (ne-eqb _ _ n, _&&_))
+
+  -- the clique is not filled
+  pub enter-free : behind ≡ 255 → false ≡ lastFree a → true ≡ cliqueCanEnter a r j behind list
+  unfolding cliqueCanEnter _&&_
+  enter-free e d = sym (rw (eq-eqb _ _ e, _&&_, ← d))
+
+  -- the follow list does not name the entering robot at its place
+  pub enter-unnamed : behind ≡ 255 → true ≡ lastFree a → false ≡ eqb (cell (named list) j) (suc r) → false ≡ cliqueCanEnter a r j behind list
+  unfolding cliqueCanEnter _&&_
+  enter-unnamed e d n = sym (rw (eq-eqb _ _ e, _&&_, ← d, ← n))
+
+  -- it does: the others are to be those inside
+  pub enter-named : behind ≡ 255 → true ≡ lastFree a → true ≡ eqb (cell (named list) j) (suc r)
+      → sameRobots a (set (named list) j 0) ≡ cliqueCanEnter a r j behind list
+  unfolding cliqueCanEnter _&&_
+  enter-named e d n = sym (rw (eq-eqb _ _ e, _&&_, ← d, ← n))
+
+  -- so a list that was met names robots
+  pub entered : T (cliqueCanEnter a r j behind list) → true ≡ lastFree a → T (sameRobots a (set (named list) j 0))
+  unfolding cliqueCanEnter _&&_
+  entered t d =
+      let u = and-right (eqb behind 255) _ t in
+      and-right (eqb (cell (named list) j) (suc r)) (sameRobots a (set (named list) j 0)) (rw (← d) at u)
+
+  -- ---- the moves
+
+  -- room is made
+  pub enter-room : false ≡ lastFree a → makeRoom a j ≡ cliqueEnter a j list
+  unfolding cliqueEnter
+  enter-room d = rw (← d, cliqueEnter)
+
+  -- the robots inside go to the list's arrangement
+  pub enter-fill : (n : ℕ) → true ≡ lastFree a → n ≡ length a → cliqueTo (n * 2) a (set (named list) j 0) ≡ cliqueEnter a j list
+  unfolding cliqueEnter
+  enter-fill n d e = rw (← d, cliqueEnter, e)
+
+-- a list that was met names robots, so that `enter` may be called with it
+pub entered-numbered : (s : State) (vs : List ℕ) (r j behind : ℕ) (list : List ℕ)
+    → cliqueCanEnter (arrangementOf s vs) r j behind list ≡ true → lastFree (arrangementOf s vs) ≡ true → Numbered list j
+entered-numbered s vs r j behind list e d i n q =
+    named-nobody s vs list j i n q (entered (arrangementOf s vs) r j behind list (of-true e) (sym d))
+
+-- ---- the follow list of a drawn plan
+
+robots-cons : (x : ℕ) (a : Arrangement) → robotsOf (cellOf x ∷ a) ≡ x ∷ robotsOf a
+unfolding robotsOf
+robots-cons x a = pick (ℕ-discrete x 255)
+  where
+    pick : Dec (x ≡ 255) → robotsOf (cellOf x ∷ a) ≡ x ∷ robotsOf a
+    pick (yes e) = ap (λ (c : ℕ). robotsOf (c ∷ a)) (cell-none e) ∙ ap (λ (y : ℕ). y ∷ robotsOf a) (sym e)
+    pick (no n) = ap (λ (c : ℕ). robotsOf (c ∷ a)) (cell-of n)
+
+robots-all : (s : State) (vs : List ℕ) → map (robotOn s) vs ≡ robotsOf (arrangementOf s vs)
+unfolding robotsOf arrangementOf
+robots-all s [] = refl
+robots-all s (v ∷ vs) = sym (robots-cons (robotOn s v) (arrangementOf s vs) ∙ ap (λ (l : List ℕ). robotOn s v ∷ l) (sym (robots-all s vs)))
+
+-- the robots of a zone by place, with r put on place j
+pub robots-put : (s : State) (vs : List ℕ) (j r : ℕ) → set (map (robotOn s) vs) j r ≡ robotsOf (set (arrangementOf s vs) j (suc r))
+unfolding robotsOf arrangementOf
+robots-put s [] j r = refl
+robots-put s (v ∷ vs) zero r = ap (λ (l : List ℕ). r ∷ l) (robots-all s vs)
+robots-put s (v ∷ vs) (suc j) r =
+    sym (robots-cons (robotOn s v) (set (arrangementOf s vs) j (suc r)) ∙ ap (λ (l : List ℕ). robotOn s v ∷ l) (sym (robots-put s vs j r)))
+
+-- one put over what was laid over
+pub overlaid-put : (b old : List ℕ) (j x : ℕ) → j < length b → set (overlaid b old) j x ≡ overlaid (set b j x) old
+unfolding overlaid
+overlaid-put [] old j x h = absurd (omega arith)
+overlaid-put (y ∷ b) [] zero x h = refl
+overlaid-put (y ∷ b) [] (suc j) x h = refl
+overlaid-put (y ∷ b) (z ∷ old) zero x h = refl
+overlaid-put (y ∷ b) (z ∷ old) (suc j) x h = ap (λ (l : List ℕ). y ∷ l) (overlaid-put b old j x (omega arith))
+
+-- one put past the end
+pub overlaid-past : (b old : List ℕ) (j x : ℕ) → length b ≤ j → overlaid b old ≡ overlaid (set b j x) old
+overlaid-past b old j x h = ap (λ (l : List ℕ). overlaid l old) (sym (set-out b j x h))

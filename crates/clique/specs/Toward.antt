@@ -1,0 +1,156 @@
+-- The moves of a clique towards a given arrangement: one law for each way through the code.
+use mathlib.Core.Path.{_≡_, refl, ap, ap₂, sym, _∙_}
+use mathlib.Core.Logic.{_≢_, _⊎_, inl, inr}
+use mathlib.Core.Bool.{Bool, true, false}
+use Prim.Native.Nat.{ℕ, zero, suc, _+_, _-_, _<_, _≤_, min}
+use mathlib.Core.List.{List, [], _∷_}
+use native.Mathlib.Numerals.{add-one}
+use native.Mathlib.Omega.{arith}
+use native.Mathlib.Decide.{decLt}
+use native.Mathlib.Nat.{not-suc-le-zero}
+use lib.ListN.{length, getD, drop, drop-of-length-le}
+use lib.Seq.{drop-cons}
+use lib.Dec.{eqb, ltb}
+use borrow.Author.Tests.{eq-eqb, ne-eqb, lt-ltb, le-ltb}
+use Rattle.spec.specs.Arrangement.{Arrangement, Move, mv, seek, cell, apply, lesser}
+use Rattle.spec.specs.Clique.{openTarget, lowestOff, toPlace, cliqueTo}
+
+-- ---- two arrangements, place by place
+
+-- both from place i on begin with what stands there
+pub both : (a g : Arrangement) (i : ℕ) → i < min (length a) (length g) → (P : Arrangement → Arrangement → ℕ)
+    → P (drop i a) (drop i g) ≡ P (getD a i 0 ∷ drop (i + 1) a) (getD g i 0 ∷ drop (i + 1) g)
+both a g i h P = rw add-one (ap₂ P (drop-cons a i 0 (omega arith)) (drop-cons g i 0 (omega arith)))
+
+-- past the shorter one, one is empty
+pub one-empty : (a g : Arrangement) (i : ℕ) → min (length a) (length g) ≤ i → (drop i a ≡ []) ⊎ (drop i g ≡ [])
+one-empty a g i h = pick (decLt i (length a))
+  where
+    pick : Dec (i < length a) → (drop i a ≡ []) ⊎ (drop i g ≡ [])
+    pick (yes l) = inr (drop-of-length-le g {i = i} (omega arith))
+    pick (no l) = inl (drop-of-length-le a {i = i} (omega arith))
+
+-- ---- an open target
+
+open-cons : (x y : ℕ) (a g : Arrangement) → (x ≡ 0 → y ≡ 0) → openTarget (x ∷ a) (y ∷ g) ≡ suc (openTarget a g)
+unfolding openTarget
+open-cons x zero a g h = refl
+open-cons zero (suc y) a g h = let e = h refl in absurd (omega arith)
+open-cons (suc x) (suc y) a g h = refl
+
+open-found : (x y : ℕ) (a g : Arrangement) → x ≡ 0 → 0 < y → openTarget (x ∷ a) (y ∷ g) ≡ 0
+unfolding openTarget
+open-found zero zero a g p q = absurd (not-suc-le-zero q)
+open-found zero (suc y) a g p q = refl
+open-found (suc x) y a g p q = absurd (omega arith)
+
+open-none : (a g : Arrangement) → (a ≡ []) ⊎ (g ≡ []) → openTarget a g ≡ 0
+unfolding openTarget
+open-none a g (inr e) = rw e
+open-none a [] (inl e) = refl
+open-none a (y ∷ g) (inl e) = rw e
+
+module _ (a g : Arrangement) where
+  -- a search from place i on: found, one place further, at the end
+  pub open-here : (i : ℕ) → i < min (length a) (length g) → 0 < getD g i 0 → getD a i 0 ≡ 0 → i ≡ i + openTarget (drop i a) (drop i g)
+  open-here i h y x =
+      omega (arith, both a g i h openTarget, open-found (getD a i 0) (getD g i 0) (drop (i + 1) a) (drop (i + 1) g) x y)
+
+  pub open-further : (i : ℕ) → i < min (length a) (length g) → (getD a i 0 ≡ 0 → getD g i 0 ≡ 0)
+      → i + 1 + openTarget (drop (i + 1) a) (drop (i + 1) g) ≡ i + openTarget (drop i a) (drop i g)
+  open-further i h e =
+      omega (arith, both a g i h openTarget, open-cons (getD a i 0) (getD g i 0) (drop (i + 1) a) (drop (i + 1) g) e)
+
+  pub open-end : (i : ℕ) → min (length a) (length g) ≤ i → i ≡ i + openTarget (drop i a) (drop i g)
+  open-end i h = omega (arith, open-none (drop i a) (drop i g) (one-empty a g i h))
+
+-- ---- the lowest robot off its target
+
+-- x stands on a place, y is to stand there, best is the lowest cell off target of the places after it
+unfoldable pub offNext : ℕ → ℕ → ℕ → ℕ
+unfolding lesser
+offNext x zero best = best
+offNext x (suc r) best = elim (eqb x (suc r)) [ true ↦ best | false ↦ lesser (suc r) best ]
+
+pub off-cons : (x y : ℕ) (a g : Arrangement) → lowestOff (x ∷ a) (y ∷ g) ≡ offNext x y (lowestOff a g)
+unfolding lowestOff offNext
+off-cons x zero a g = refl
+off-cons x (suc r) a g = refl
+
+off-none : (a g : Arrangement) → (a ≡ []) ⊎ (g ≡ []) → lowestOff a g ≡ 0
+unfolding lowestOff
+off-none a g (inr e) = rw e
+off-none a [] (inl e) = refl
+off-none a (y ∷ g) (inl e) = rw e
+
+-- nobody's target
+pub off-free : (x y best : ℕ) → y ≡ 0 → best ≡ offNext x y best
+unfolding offNext
+off-free x zero best e = refl
+off-free x (suc r) best e = absurd (omega arith)
+
+-- its robot stands there
+pub off-there : (x y best : ℕ) → x ≡ y → best ≡ offNext x y best
+unfolding offNext
+off-there x zero best e = refl
+off-there x (suc r) best e = rw (eq-eqb x (suc r) e, offNext)
+
+-- the first robot off target
+pub off-first : (x y best : ℕ) → y ≢ 0 → x ≢ y → best ≡ 0 → y ≡ offNext x y best
+unfolding offNext lesser
+off-first x zero best z n e = absurd (z refl)
+off-first x (suc r) best z n e = rw (ne-eqb x (suc r) n, offNext, eq-eqb best 0 e, lesser)
+
+-- one more: the lesser of the two
+pub off-lesser : (x y best : ℕ) → y ≢ 0 → x ≢ y → best ≢ 0 → min y best ≡ offNext x y best
+unfolding offNext lesser
+off-lesser x zero best z n e = absurd (z refl)
+off-lesser x (suc r) best z n e = rw (ne-eqb x (suc r) n, offNext, ne-eqb best 0 e, lesser)
+
+module _ (a g : Arrangement) where
+  -- one place earlier, and before the first
+  pub off-earlier : (k best z : ℕ) → k < min (length a) (length g) → best ≡ lowestOff (drop (k + 1) a) (drop (k + 1) g)
+      → z ≡ offNext (getD a k 0) (getD g k 0) best → z ≡ lowestOff (drop k a) (drop k g)
+  off-earlier k best z h e d =
+      d ∙ ap (offNext (getD a k 0) (getD g k 0)) e
+      ∙ sym (both a g k h lowestOff ∙ off-cons (getD a k 0) (getD g k 0) (drop (k + 1) a) (drop (k + 1) g))
+
+  pub off-end : (k : ℕ) → min (length a) (length g) ≤ k → 0 ≡ lowestOff (drop k a) (drop k g)
+  off-end k h = sym (off-none (drop k a) (drop k g) (one-empty a g k h))
+
+-- ---- the moves
+
+-- a robot goes to its target
+pub to-target : (n : ℕ) (a b g : Arrangement) (q x i : ℕ) → 0 < n → q ≡ openTarget a g → q < length a → x ≡ cell g q → i ≡ seek x a
+    → b ≡ apply a (mv (x - 1) i q) → cliqueTo n a g ≡ mv (x - 1) i q ∷ cliqueTo (n - 1) b g
+unfolding cliqueTo toPlace
+to-target zero a b g q x i z e h ex ei eb = absurd (not-suc-le-zero z)
+to-target (suc n) a b g q x i z e h ex ei eb =
+    let k : suc n - 1 ≡ n = omega arith in
+    let l : openTarget a g < length a = omega arith in
+    rw (lt-ltb _ _ l, cliqueTo, ← e, ← ex, ← ei, k, eb)
+
+-- the lowest robot off target goes to the earliest empty place
+pub to-room : (n : ℕ) (a b g : Arrangement) (q x i f : ℕ) → 0 < n → q ≡ openTarget a g → length a ≤ q → x ≡ lowestOff a g → x ≢ 0
+    → i ≡ seek x a → f ≡ seek 0 a → b ≡ apply a (mv (x - 1) i f) → cliqueTo n a g ≡ mv (x - 1) i f ∷ cliqueTo (n - 1) b g
+unfolding cliqueTo toPlace
+to-room zero a b g q x i f z e h ex nx ei ef eb = absurd (not-suc-le-zero z)
+to-room (suc n) a b g q x i f z e h ex nx ei ef eb =
+    let k : suc n - 1 ≡ n = omega arith in
+    let l : length a ≤ openTarget a g = omega arith in
+    let o : (lowestOff a g ≡ 0 → ⊥) = λ y. nx (ex ∙ y) in
+    rw (le-ltb _ _ l, cliqueTo, ne-eqb _ _ o, ← ex, ← ei, ← ef, k, eb)
+
+-- every robot is on its target
+pub to-rest : (n : ℕ) (a g : Arrangement) (q x : ℕ) → 0 < n → q ≡ openTarget a g → length a ≤ q → x ≡ lowestOff a g → x ≡ 0 → cliqueTo n a g ≡ []
+unfolding cliqueTo
+to-rest zero a g q x z e h ex o = absurd (not-suc-le-zero z)
+to-rest (suc n) a g q x z e h ex o =
+    let l : length a ≤ openTarget a g = omega arith in
+    let p : lowestOff a g ≡ 0 = sym ex ∙ o in
+    rw (le-ltb _ _ l, cliqueTo, eq-eqb _ _ p)
+
+-- no move is left to make
+pub to-none : (n : ℕ) (a g : Arrangement) → n ≡ 0 → cliqueTo n a g ≡ []
+unfolding cliqueTo
+to-none n a g e = rw e

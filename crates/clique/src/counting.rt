@@ -1,0 +1,54 @@
+// How many robots stand in a zone, of any kind and size.
+ghost use mathlib.Core.Path.{_≡_};
+ghost use Prim.Native.Nat.{min};
+ghost use lib.ListN.{length};
+ghost use Rattle.spec.specs.Arrangement.{order, full, lastFree};
+ghost use Rattle.spec.specs.State.{arrangementOf};
+ghost use Rattle.motion.specs.States.{stateOf};
+use motion::State;
+use motion::robot_on;
+use numbering::Vertex;
+
+pub fn least(a: usize, b: usize) -> usize
+    ensures { λ r. ⌜ r ≡ min a b ⌝ }
+{
+    if a < b {
+        return a;
+    }
+    b
+}
+
+// The number of robots in a zone.
+fn count_robots(s: State, zone: &[u8]) -> usize
+    ensures { λ n. ⌜ n ≡ length (order (arrangementOf (stateOf s) (now (zone .entry)))) ⌝ }
+{
+    let mut n: usize = 0;
+    let mut k: usize = 0;
+    while k < zone.len() {
+        let r = robot_on(s, Vertex(zone[k]));
+        k += 1;
+        if r.0 != 255 {
+            n += 1;
+        }
+    }
+    n
+}
+
+// "'Full' means a cart on every point."
+pub fn is_full(s: State, zone: &[u8]) -> bool
+    ensures { λ b. ⌜ b ≡ full (arrangementOf (stateOf s) (now (zone .entry))) ⌝ }
+{
+    let n = count_robots(s, zone);
+    n == zone.len()
+}
+
+// Is one place free, so that whoever enters fills the zone?
+pub fn last_free(s: State, zone: &[u8]) -> bool
+    ensures { λ b. ⌜ b ≡ lastFree (arrangementOf (stateOf s) (now (zone .entry))) ⌝ }
+{
+    if zone.len() == 0 {
+        return false;
+    }
+    let n = count_robots(s, zone);
+    n == zone.len() - 1
+}
