@@ -1,0 +1,47 @@
+use native.Mathlib.Omega.{arith}
+use Prim.Native.Nat.{ℕ, _+_, _-_, _*_, _/_, _%_, _≤_, _<_}
+use mathlib.Core.Path.{_≡_, refl, ap, sym, _∙_}
+use mathlib.Core.List.{List, []}
+use lib.ListN.{length, getD, take, drop, set, length-set}
+use Rattle.adjacency.specs.Rows.{putBit, join-out, join-out-2, join-is}
+use borrow.Author.Needs.{needs}
+use Rattle.adjacency.proofs.add_edge.Statement.{statement}
+use Rattle.adjacency.proofs.add_edge.Tie as tie
+use Rattle.adjacency.proofs.add_edge.Reads as reads
+use Rattle.adjacency.proofs.add_edge.Lts as lts
+use Rattle.adjacency.proofs.put.Reads as put-reads
+
+-- src/lib.rt:38:13
+cast-a : tie.Need-cast-a
+cast-a c = search needs
+
+-- src/lib.rt:39:13
+cast-b : tie.Need-cast-b
+cast-b c = search needs
+
+-- src/lib.rt:41:9
+returns : tie.Need-returns
+returns c = join-out _ _ _ (c .if1 .taken)
+
+-- src/lib.rt:44:9
+returns-2 : tie.Need-returns-2
+returns-2 c = join-out-2 _ _ _ (c .before .if1 .left) (c .if2 .taken)
+
+-- src/lib.rt:46:5
+put-requires : tie.Need-put-requires
+put-requires c κs = search needs
+
+-- src/lib.rt:47:5
+put-requires-2 : tie.Need-put-requires-2
+put-requires-2 c κs = search needs
+
+-- src/lib.rt:35:1
+returns-3 : tie.Need-returns-3
+returns-3 c =
+    let a = c .before .before .before .before .before .before .before .before .args in
+    c .put2 .ensures ∙ ap (λ (r : List (List ℕ)). putBit r (a .v .0) (a .u .0)) (c .before .before .put .ensures)
+    ∙ sym (join-is (a .rows .now) (a .u .0) (a .v .0) (omega arith) (omega arith))
+
+pub add-edge-spec : {M : Type 1} → statement M
+add-edge-spec =
+    tie.close (tie.spec cast-a cast-b returns returns-2 put-requires put-requires-2 returns-3)

@@ -1,0 +1,83 @@
+use native.Mathlib.Omega.{arith}
+use Prim.Native.Nat.{ℕ, _+_, _-_, _*_, _/_, _%_, _≤_, _<_}
+use mathlib.Core.Path.{_≡_, refl, ap, sym, _∙_}
+use mathlib.Core.List.{List, []}
+use lib.ListN.{length, getD, take, drop, set, length-set}
+use Rattle.adjacency.specs.Rows.{putBit, join-out, join-out-2, join-is}
+use lib.Bits.{bitOr}
+use lib.Pow.{shl-exact}
+use lib.Dec.{lit<}
+use native.Mathlib.Nat.{one-mul}
+use borrow.Author.Needs.{needs}
+use Rattle.adjacency.proofs.put.Statement.{statement}
+use Rattle.adjacency.proofs.put.Tie as tie
+use Rattle.adjacency.proofs.put.Reads as reads
+use Rattle.adjacency.proofs.put.Lts as lts
+
+-- src/lib.rt:29:16
+mul-word : tie.Need-mul-word
+mul-word c = search needs
+
+-- src/lib.rt:29:16
+mul-word-2 : tie.Need-mul-word-2
+mul-word-2 c = search needs
+
+-- src/lib.rt:29:16
+index-1-word : tie.Need-index-1-word
+index-1-word c = search needs
+
+-- src/lib.rt:29:16
+index-2-word : tie.Need-index-2-word
+index-2-word c = search needs
+
+-- src/lib.rt:30:17
+cast-place : tie.Need-cast-place
+cast-place c = search needs
+
+-- src/lib.rt:31:36
+cast-rows : tie.Need-cast-rows
+cast-rows c = search needs
+
+-- src/lib.rt:31:31
+shl-rows : tie.Need-shl-rows
+shl-rows c = search needs
+
+-- src/lib.rt:31:5
+mul-rows : tie.Need-mul-rows
+mul-rows c = search needs
+
+-- src/lib.rt:31:5
+mul-rows-2 : tie.Need-mul-rows-2
+mul-rows-2 c = search needs
+
+-- src/lib.rt:31:5
+index-1-rows : tie.Need-index-1-rows
+index-1-rows c = search needs
+
+-- src/lib.rt:31:5
+index-2-rows : tie.Need-index-2-rows
+index-2-rows c = search needs
+
+-- src/lib.rt:25:1
+returns : tie.Need-returns
+returns c =
+    let a = c .before .args in
+    ap (λ (x : ℕ). set (a .rows .now) (a .a) (set (getD (a .rows .now) (a .a) []) (a .b / 64) (bitOr (getD (getD (a .rows .now) (a .a) []) (a .b / 64) 0) x)))
+    (shl-exact 1 (a .b % 64) 64 (lit< tt) (omega arith) ∙ one-mul _)
+
+pub put-spec : {M : Type 1} → statement M
+put-spec =
+    tie.close
+    (tie.spec
+    mul-word
+    mul-word-2
+    index-1-word
+    index-2-word
+    cast-place
+    cast-rows
+    shl-rows
+    mul-rows
+    mul-rows-2
+    index-1-rows
+    index-2-rows
+    returns)

@@ -1,0 +1,77 @@
+use borrow.Author.Needs.{needs}
+use native.Mathlib.Omega.{arith}
+use Prim.Native.Nat.{ℕ, _+_, _-_, _*_, _/_, _%_, _≤_, _<_}
+use mathlib.Core.Path.{_≡_, refl, ap, ap₂, sym, _∙_}
+use mathlib.Core.Bool.{Bool, true, false}
+use lib.ListN.{length, getD, take, drop, set}
+use borrow.Author.Tests.{not-true, not-false}
+use Rattle.spec.specs.Outcome.{below}
+use Rattle.kinds.specs.Tests.{innerTest, laterTest, below-more, below-not}
+use Rattle.kinds.proofs.closed_ok.Statement.{statement}
+use Rattle.kinds.proofs.closed_ok.Tie as tie
+use Rattle.kinds.proofs.closed_ok.Reads as reads
+use Rattle.kinds.proofs.closed_ok.Lts as lts
+use Rattle.kinds.proofs.inner_ok.Reads as inner-ok-reads
+
+abbrev Inv-loop : tie.InvT-loop
+Inv-loop rows listed zone z first size i₀ i = (i ≤ size) × (below (laterTest rows listed zone z first) (i - 1) ≡ below (laterTest rows listed zone z first) (size - 1))
+
+abbrev μ-loop : tie.MeasureT-loop
+μ-loop rows listed zone z first size i₀ i = i
+
+loop-holds : tie.Need-loop-holds Inv-loop μ-loop
+loop-holds c = (search needs, refl)
+
+sub-i : tie.Need-sub-i Inv-loop μ-loop
+sub-i c = search needs
+
+add-v : tie.Need-add-v Inv-loop μ-loop
+add-v c = search needs
+
+element-copy-out-v : tie.Need-element-copy-out-v Inv-loop μ-loop
+element-copy-out-v c = search needs
+
+inner-ok-requires : tie.Need-inner-ok-requires Inv-loop μ-loop
+inner-ok-requires c κs = search needs
+
+returns : tie.Need-returns Inv-loop μ-loop
+returns c =
+    let a = c .before .before .before .before .before .args in
+    let o = c .before .before .before .before .loop in
+    let p : o .i - 1 - 1 + 1 ≡ o .i - 1 = omega arith in
+    let e = ap (λ (x : ℕ). innerTest (a .rows .now) (a .zone .now) (a .z) (getD (a .listed .now) (a .first + x) 0)) p in
+    sym (below-not (laterTest (a .rows .now) (a .listed .now) (a .zone .now) (a .z) (a .first)) (o .i - 1) (omega arith) (e ∙ sym (c .before .inner-ok .ensures) ∙ not-true _ (c .if1 .taken))) ∙ o .inv .1
+
+loop-less : tie.Need-loop-less Inv-loop μ-loop
+loop-less c = search needs
+
+loop-again : tie.Need-loop-again Inv-loop μ-loop
+loop-again c =
+    let a = c .before .before .before .before .before .args in
+    let o = c .before .before .before .before .loop in
+    let p : o .i - 1 - 1 + 1 ≡ o .i - 1 = omega arith in
+    let e = ap (λ (x : ℕ). innerTest (a .rows .now) (a .zone .now) (a .z) (getD (a .listed .now) (a .first + x) 0)) p in
+    (search needs, sym (below-more (laterTest (a .rows .now) (a .listed .now) (a .zone .now) (a .z) (a .first)) (o .i - 1) (omega arith) (e ∙ sym (c .before .inner-ok .ensures) ∙ not-false _ (c .if1 .left))) ∙ o .inv .1)
+
+returns-2 : tie.Need-returns-2 Inv-loop μ-loop
+unfolding below
+returns-2 c =
+    let a = c .before .before .args in
+    let z : c .before .loop .i - 1 ≡ 0 = omega arith in
+    sym (ap (below (laterTest (a .rows .now) (a .listed .now) (a .zone .now) (a .z) (a .first))) z) ∙ c .before .loop .inv .1
+
+pub closed-ok-spec : {M : Type 1} → statement M
+closed-ok-spec =
+    tie.close
+    (tie.spec
+    Inv-loop
+    μ-loop
+    loop-holds
+    sub-i
+    add-v
+    element-copy-out-v
+    inner-ok-requires
+    returns
+    loop-less
+    loop-again
+    returns-2)

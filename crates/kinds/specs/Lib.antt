@@ -1,0 +1,5 @@
+pub mod Tests
+pub mod Links
+pub mod Shape
+pub mod Closed
+pub mod Kind
