@@ -17,7 +17,7 @@ use Rattle.spec.specs.Clique.{named, sameRobots, makeRoom, cliqueTo, cliqueCanE
 use Rattle.spec.specs.State.{State, robotOn, cellOf, arrangementOf, robotsOf}
 use Rattle.theory.specs.Basics.Lists.{getD-map}
 use Rattle.theory.specs.Basics.Tests.{false-of, of-true, of-false, and-right}
-use Rattle.theory.specs.Maps.State.{cell-of, cell-none}
+use Rattle.theory.specs.Maps.Cells.{cell-of, cell-none}
 use Rattle.theory.specs.Zones.Arrangements.{cell-inside}
 use Rattle.theory.specs.Zones.Robots.{SameRobots, same-robots}
 use Rattle.motion.specs.Cells.{overlaid}

@@ -8,7 +8,7 @@ use lib.ListN.{length, getD, set, take, drop, length-set, drop-of-length-le}
 use lib.Seq.{take-suc-set, take-all}
 use Rattle.spec.specs.Arrangement.{Arrangement, order, places}
 use Rattle.spec.specs.State as meaning
-use Rattle.theory.specs.Maps.State.{cell-of, cell-none}
+use Rattle.theory.specs.Maps.Cells.{cell-of, cell-none}
 use Rattle.theory.specs.Zones.HallOrder.{length-places}
 use Rattle.motion.specs.Across.{arrangement-length, arrangement-next}
 

@@ -16,7 +16,7 @@ use Rattle.spec.specs.Hall.{room, lowerThan, hallCanLeave, hallCanEnter, hallCa
 use Rattle.spec.specs.State as meaning
 use Rattle.theory.specs.Basics.Lists.{index-here, index-further, lastOf, last-snoc}
 use Rattle.theory.specs.Zones.Arrangements.{order-append, last-order}
-use Rattle.theory.specs.Maps.State.{cell-of, cell-none}
+use Rattle.theory.specs.Maps.Cells.{cell-of, cell-none}
 use Rattle.motion.specs.Across.{arrangement-length, arrangement-at, arrangement-next}
 
 -- how many robots stand in a zone, and how many before the named one

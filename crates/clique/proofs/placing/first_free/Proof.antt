@@ -7,7 +7,7 @@ use Rattle.spec.specs.State.{arrangementOf}
 use Rattle.motion.specs.States.{stateOf}
 use Rattle.clique.specs.Places.{free-seek}
 use lib.Count.{trailingZeros, trailing-le}
-use Rattle.theory.specs.Maps.State.{cell-none}
+use Rattle.theory.specs.Maps.Cells.{cell-none}
 use Rattle.clique.proofs.placing.first_free.Statement.{statement}
 use Rattle.clique.proofs.placing.first_free.Tie as tie
 
