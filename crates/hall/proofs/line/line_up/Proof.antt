@@ -1,0 +1,104 @@
+use borrow.Author.Needs.{needs}
+use native.Mathlib.Omega.{arith}
+use Prim.Native.Nat.{ℕ, _+_, _-_, _≤_, _<_}
+use mathlib.Core.Path.{_≡_, refl, _∙_}
+use lib.ListN.{length, length-set}
+use Rattle.spec.specs.State.{arrangementOf}
+use Rattle.motion.specs.States.{stateOf}
+use Rattle.hall.specs.Line.{Collected, collect-none, collect-robot, collect-empty, collect-all}
+use Rattle.hall.proofs.line.line_up.Statement.{statement}
+use Rattle.hall.proofs.line.line_up.Tie as tie
+
+abbrev Inv-loop : tie.InvT-loop
+Inv-loop s zone robots₀ places₀ n₀ k₀ robots places n k = (k ≤ length zone) × (length robots ≡ length robots₀) × (length places ≡ length places₀)
+    × Collected (arrangementOf (stateOf s) zone) k n robots places
+
+abbrev μ-loop : tie.MeasureT-loop
+μ-loop s zone robots₀ places₀ n₀ k₀ robots places n k = length zone - k
+
+loop-holds : tie.Need-loop-holds Inv-loop μ-loop
+loop-holds c = (search needs, refl, refl, collect-none _ _ _)
+
+shared-slice-read-t12 : tie.Need-shared-slice-read-t12 Inv-loop μ-loop
+shared-slice-read-t12 c = search needs
+
+robot-on-requires : tie.Need-robot-on-requires Inv-loop μ-loop
+robot-on-requires c κs = search needs
+
+cast-place : tie.Need-cast-place Inv-loop μ-loop
+cast-place c = search needs
+
+add-k : tie.Need-add-k Inv-loop μ-loop
+add-k c = search needs
+
+slice-write-robots : tie.Need-slice-write-robots Inv-loop μ-loop
+slice-write-robots c = search needs
+
+slice-write-places : tie.Need-slice-write-places Inv-loop μ-loop
+slice-write-places c = search needs
+
+add-n : tie.Need-add-n Inv-loop μ-loop
+add-n c = search needs
+
+loop-less : tie.Need-loop-less Inv-loop μ-loop
+loop-less c = search needs
+
+loop-again : tie.Need-loop-again Inv-loop μ-loop
+loop-again c =
+    let a = c .before .before .before .before .before .before .before .before .before .args in
+    let o = c .before .before .before .before .before .loop in
+    let v = o .inv .3 in (
+      search needs,
+      simp length-set (o .inv .1),
+      simp length-set (o .inv .2),
+      collect-robot (stateOf (a .s)) (a .zone .now) (o .k) (o .n) (c .before .before .robot-on .result .0) (o .robots) (o .places) (c .before .before .before .before .loop-test .taken)
+          (c .before .before .robot-on .ensures) (c .if1 .taken) (omega (arith, v .short, c .before .before .before .before .before .before .before .before .before .pre)) (omega (arith, v .short, c .before .before .before .before .before .before .before .before .before .pre)) v,
+    )
+
+loop-less-2 : tie.Need-loop-less-2 Inv-loop μ-loop
+loop-less-2 c = search needs
+
+loop-again-2 : tie.Need-loop-again-2 Inv-loop μ-loop
+loop-again-2 c =
+    let a = c .before .before .before .before .before .before .before .before .before .args in
+    let o = c .before .before .before .before .before .loop in (
+      search needs,
+      o .inv .1,
+      o .inv .2,
+      collect-empty (stateOf (a .s)) (a .zone .now) (o .k) (o .n) (c .before .before .robot-on .result .0) (o .robots) (o .places) (c .before .before .before .before .loop-test .taken)
+          (c .before .before .robot-on .ensures) (c .if1 .left) (o .inv .3),
+    )
+
+same-length : tie.Need-same-length Inv-loop μ-loop
+same-length c = search needs
+
+same-length-2 : tie.Need-same-length-2 Inv-loop μ-loop
+same-length-2 c = search needs
+
+returns : tie.Need-returns Inv-loop μ-loop
+returns c =
+    let a = c .before .before .before .before .before .args in
+    let o = c .before .loop in
+    collect-all (stateOf (a .s)) (a .zone .now) (o .k) (o .n) (o .robots) (o .places) (omega arith) (o .inv .3)
+
+pub line-up-spec : {M : Type 1} → statement M
+line-up-spec =
+    tie.close
+    (tie.spec
+    Inv-loop
+    μ-loop
+    loop-holds
+    shared-slice-read-t12
+    robot-on-requires
+    cast-place
+    add-k
+    slice-write-robots
+    slice-write-places
+    add-n
+    loop-less
+    loop-again
+    loop-less-2
+    loop-again-2
+    same-length
+    same-length-2
+    returns)

@@ -1,0 +1,50 @@
+use borrow.Author.Needs.{needs}
+use native.Mathlib.Omega.{arith}
+use Prim.Native.Nat.{ℕ, _+_, _-_, _≤_, _<_}
+use mathlib.Core.Path.{_≡_, refl, ap, sym, _∙_}
+use lib.ListN.{length}
+use Rattle.spec.specs.State.{arrangementOf}
+use Rattle.motion.specs.States.{stateOf}
+use Rattle.motion.specs.Across.{arrangement-length}
+use Rattle.hall.specs.Reach.{can-leave-room, can-leave-none}
+use Rattle.hall.proofs.reach.can_leave.Statement.{statement}
+use Rattle.hall.proofs.reach.can_leave.Tie as tie
+
+count-robots-requires : tie.Need-count-robots-requires
+count-robots-requires c κs = search needs
+
+sub-has-room : tie.Need-sub-has-room
+sub-has-room c = search needs
+
+sub-has-room-2 : tie.Need-sub-has-room-2
+sub-has-room-2 c = search needs
+
+has-room-requires : tie.Need-has-room-requires
+has-room-requires c κs = search needs
+
+returns : tie.Need-returns
+returns c =
+    let a = c .before .before .before .before .args in
+    let g = arrangementOf (stateOf (a .s)) (a .zone .now) in
+    let n = c .before .before .count-robots in
+    c .has-room .ensures
+    ∙ can-leave-room g (a .r .0) (n .result .lower) (n .result .all) (n .ensures) (a .j) (length (a .zone .now)) (sym (arrangement-length (stateOf (a .s)) (a .zone .now)))
+    (c .before .if1 .taken)
+
+returns-2 : tie.Need-returns-2
+returns-2 c =
+    let a = c .before .before .before .args in
+    let g = arrangementOf (stateOf (a .s)) (a .zone .now) in
+    let n = c .before .count-robots in
+    can-leave-none g (a .r .0) (n .result .lower) (n .result .all) (n .ensures) (a .j) (c .if1 .left)
+
+pub can-leave-spec : {M : Type 1} → statement M
+can-leave-spec =
+    tie.close
+    (tie.spec
+    count-robots-requires
+    sub-has-room
+    sub-has-room-2
+    has-room-requires
+    returns
+    returns-2)

@@ -1,0 +1,97 @@
+use borrow.Author.Needs.{needs}
+use native.Mathlib.Omega.{arith}
+use Prim.Native.Nat.{ℕ, _+_, _-_, _≤_, _<_}
+use mathlib.Core.Path.{_≡_, refl, ap, sym, _∙_}
+use lib.ListN.{length, getD}
+use mathlib.Core.List.{List}
+use Rattle.spec.specs.Arrangement.{Move}
+use Rattle.spec.specs.State.{across}
+use Rattle.spec.specs.Hall.{down, lowering}
+use Rattle.motion.specs.World.{worldOf, madeAll, made-none}
+use Rattle.motion.specs.Across.{across-nil, made-both}
+use Rattle.hall.specs.Trips.{tripsFrom, lowering-more, lowering-done}
+use Rattle.hall.proofs.trips.lower_all.Statement.{statement}
+use Rattle.hall.proofs.trips.lower_all.Tie as tie
+
+abbrev Inv-loop : tie.InvT-loop
+Inv-loop zone robots places goals n out₀ run₀ i₀ out run i = (length out ≡ length out₀) × (i ≤ n)
+    × (madeAll (worldOf run out) (across zone (lowering (tripsFrom robots places goals i n)))
+    ≡ madeAll (worldOf run₀ out₀) (across zone (lowering (tripsFrom robots places goals 0 n))))
+
+abbrev μ-loop : tie.MeasureT-loop
+μ-loop zone robots places goals n out₀ run₀ i₀ out run i = n - i
+
+loop-holds : tie.Need-loop-holds Inv-loop μ-loop
+loop-holds c = (refl, search needs, refl)
+
+shared-slice-read-r : tie.Need-shared-slice-read-r Inv-loop μ-loop
+shared-slice-read-r c = search needs
+
+shared-slice-read-p : tie.Need-shared-slice-read-p Inv-loop μ-loop
+shared-slice-read-p c = search needs
+
+shared-slice-read-q : tie.Need-shared-slice-read-q Inv-loop μ-loop
+shared-slice-read-q c = search needs
+
+cast-lower : tie.Need-cast-lower Inv-loop μ-loop
+cast-lower c = omega (arith, c .before .shared-slice-known6 .given (c .before .before .before .before .loop .i))
+
+cast-lower-2 : tie.Need-cast-lower-2 Inv-loop μ-loop
+cast-lower-2 c = omega (arith, c .shared-slice-known7 .given (c .before .before .before .before .loop .i))
+
+lower-requires : tie.Need-lower-requires Inv-loop μ-loop
+lower-requires c κs = search needs
+
+add-i : tie.Need-add-i Inv-loop μ-loop
+add-i c = search needs
+
+loop-less : tie.Need-loop-less Inv-loop μ-loop
+loop-less c = search needs
+
+loop-again : tie.Need-loop-again Inv-loop μ-loop
+loop-again c =
+    let a = c .before .before .before .before .before .before .before .before .before .before .before .before .before .before .args in
+    let o = c .before .before .before .before .before .before .before .before .loop in
+    let z = a .zone .now in
+    let w = worldOf (o .run) (o .out) in
+    let rs = a .robots .now in
+    let ps = a .places .now in
+    let gs = a .goals .now in
+    let h = c .before .before .before .before .before .before .before .before .before .before .before .before .before .before .pre in (
+      search needs,
+      search needs,
+      made-both w _ z (down (getD rs (o .i) 0) (getD ps (o .i) 0 - getD gs (o .i) 0) (getD gs (o .i) 0)) (lowering (tripsFrom rs ps gs (o .i + 1) (a .n))) (c .before .before .lower .ensures)
+          ∙ ap (λ (ms : List Move). madeAll w (across z ms))
+          (sym (lowering-more rs ps gs (a .n) (o .i) (c .before .before .before .before .before .before .before .loop-test .taken) (h .0) (h .1) (h .2))) ∙ o .inv .2,
+    )
+
+same-length : tie.Need-same-length Inv-loop μ-loop
+same-length c = search needs
+
+returns : tie.Need-returns Inv-loop μ-loop
+returns c =
+    let a = c .before .before .before .before .before .before .before .args in
+    let o = c .before .loop in
+    let e : o .i ≡ a .n = omega arith in
+    made-none (worldOf (o .run) (o .out)) _
+    (ap (λ (k : ℕ). across (a .zone .now) (lowering (tripsFrom (a .robots .now) (a .places .now) (a .goals .now) k (a .n)))) e
+    ∙ ap (across (a .zone .now)) (lowering-done (a .robots .now) (a .places .now) (a .goals .now) (a .n)) ∙ across-nil (a .zone .now)) ∙ o .inv .2
+
+pub lower-all-spec : {M : Type 1} → statement M
+lower-all-spec =
+    tie.close
+    (tie.spec
+    Inv-loop
+    μ-loop
+    loop-holds
+    shared-slice-read-r
+    shared-slice-read-p
+    shared-slice-read-q
+    cast-lower
+    cast-lower-2
+    lower-requires
+    add-i
+    loop-less
+    loop-again
+    same-length
+    returns)

@@ -1,0 +1,137 @@
+// What a hall can reach: its robots keep their order, so that what counts is who stands below and above.
+ghost use mathlib.Core.Path.{_≡_};
+ghost use mathlib.Core.Bool.{Bool, true, false};
+ghost use lib.ListN.{length, take};
+ghost use Rattle.spec.specs.Arrangement.{lastNamed};
+ghost use Rattle.spec.specs.State.{arrangementOf};
+ghost use Rattle.spec.specs.Hall.{room, hallCanLeave, hallCanEnter, hallCanEnd};
+ghost use Rattle.motion.specs.States.{stateOf};
+ghost use Rattle.hall.specs.Reach.{Counted, NextIs};
+use crate::least;
+use motion::State;
+use motion::robot_on;
+use numbering::Robot;
+use numbering::Vertex;
+
+// How many robots stand in a zone, and how many of them below the named one; all, where it is not among them.
+struct Count {
+    lower: usize,
+    all: usize,
+}
+
+fn count_robots(s: State, zone: &[u8], named: u8) -> Count
+    ensures { λ c. ⌜ Counted (arrangementOf (stateOf s) (now (zone .entry))) named (c .lower) (c .all) ⌝ }
+{
+    let mut lower: usize = 0;
+    let mut all: usize = 0;
+    let mut k: usize = 0;
+    while k < zone.len() {
+        let r = robot_on(s, Vertex(zone[k]));
+        k += 1;
+        if r.0 != 255 {
+            all += 1;
+            if lower + 1 == all {
+                if named != r.0 {
+                    lower += 1;
+                }
+            }
+        }
+    }
+    Count {
+        lower: lower,
+        all: all,
+    }
+}
+
+// Is there room below place j for t robots and above it for u, of `size` places?
+fn has_room(size: usize, j: usize, t: usize, u: usize) -> bool
+    ensures { λ b. ⌜ b ≡ room size j t u ⌝ }
+{
+    if j < t {
+        return false;
+    }
+    if j < size {
+        return u < size - j;
+    }
+    false
+}
+
+// Can robot r leave at place j?
+pub fn can_leave(s: State, zone: &[u8], r: Robot, j: usize) -> bool
+    ensures { λ b. ⌜ b ≡ hallCanLeave (arrangementOf (stateOf s) (now (zone .entry))) (r .0) j ⌝ }
+{
+    let c = count_robots(s, zone, r.0);
+    let t = c.lower;
+    let n = c.all;
+    if t < n {
+        return has_room(zone.len(), j, t, n - t - 1);
+    }
+    false
+}
+
+// Can a robot enter at place j with the named one behind it, 255 for none?
+pub fn can_enter(s: State, zone: &[u8], j: usize, behind: u8) -> bool
+    ensures { λ b. ⌜ b ≡ hallCanEnter (arrangementOf (stateOf s) (now (zone .entry))) j behind ⌝ }
+{
+    let c = count_robots(s, zone, behind);
+    let t = c.lower;
+    let n = c.all;
+    if behind == 255 {
+        return has_room(zone.len(), j, 0, n);
+    }
+    if t < n {
+        return has_room(zone.len(), j, t + 1, n - t - 1);
+    }
+    false
+}
+
+// The first place from k on at which a robot stands; the size where there is none.
+fn next_robot(s: State, zone: &[u8], k: usize) -> usize
+    ensures { λ i. ⌜ NextIs (stateOf s) (now (zone .entry)) k i ⌝ }
+{
+    let mut i = k;
+    while i < zone.len() {
+        let r = robot_on(s, Vertex(zone[i]));
+        if r.0 != 255 {
+            return i;
+        }
+        i += 1;
+    }
+    i
+}
+
+// Are the goals in the configuration: the same robots in the same order?
+pub fn can_end(s: State, zone: &[u8], goals: State) -> bool
+    ensures { λ b. ⌜ b ≡ hallCanEnd (arrangementOf (stateOf s) (now (zone .entry))) (arrangementOf (stateOf goals) (now (zone .entry))) ⌝ }
+{
+    let mut i = next_robot(s, zone, 0);
+    let mut k = next_robot(goals, zone, 0);
+    while i < zone.len() {
+        if zone.len() <= k {
+            return false;
+        }
+        let r = robot_on(s, Vertex(zone[i]));
+        let g = robot_on(goals, Vertex(zone[k]));
+        if r.0 != g.0 {
+            return false;
+        }
+        i = next_robot(s, zone, i + 1);
+        k = next_robot(goals, zone, k + 1);
+    }
+    zone.len() <= k
+}
+
+// The nearest robot at a place lower than j, as a step names it: 255 if none.
+pub fn behind(s: State, zone: &[u8], j: usize) -> u8
+    ensures { λ r. ⌜ r ≡ lastNamed (take j (arrangementOf (stateOf s) (now (zone .entry)))) ⌝ }
+{
+    let mut k = least(j, zone.len());
+    while 0 < k {
+        k -= 1;
+        let r = robot_on(s, Vertex(zone[k]));
+        if r.0 != 255 {
+            return r.0;
+        }
+    }
+    255
+}
