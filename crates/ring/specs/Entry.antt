@@ -17,7 +17,7 @@ use Rattle.spec.specs.Arrangement.{Arrangement, Move, cell, order, seek, applyA
 use Rattle.spec.specs.Ring.{wrap, frame, inRing, run, shove, push, opened, ringBehind, entryOpen, turnPlace, turnFor, ringEnter}
 use Rattle.spec.specs.State.{State, cellOf, robotOn, arrangementOf, across}
 use Rattle.theory.specs.Basics.Lists.{in-head, in-tail}
-use Rattle.theory.specs.Maps.State.{cell-of, cell-none, cell-robot}
+use Rattle.theory.specs.Maps.Cells.{cell-of, cell-none, cell-robot}
 use Rattle.theory.specs.Zones.Arrangements.{order-append, member→cell, cell-inside}
 use Rattle.theory.specs.Zones.CliqueMoves.{seek-ok}
 use Rattle.theory.specs.Zones.RingPush.{length-opened}

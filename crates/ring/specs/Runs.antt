@@ -11,7 +11,7 @@ use lib.Seq.{drop-cons, getD-append-add, getD-take, getD-drop, length-take-le}
 use Rattle.spec.specs.Arrangement.{Arrangement}
 use Rattle.spec.specs.Ring.{wrap, frame, run}
 use Rattle.spec.specs.State.{State, cellOf, robotOn, arrangementOf}
-use Rattle.theory.specs.Maps.State.{cell-of, cell-none, cell-robot}
+use Rattle.theory.specs.Maps.Cells.{cell-of, cell-none, cell-robot}
 use Rattle.motion.specs.Across.{arrangement-length, arrangement-at}
 use Rattle.ring.specs.Places.{wrap-is, wrap-under}
 

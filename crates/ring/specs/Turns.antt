@@ -14,7 +14,7 @@ use Rattle.spec.specs.Outcome.{_&&_}
 use Rattle.spec.specs.Arrangement.{Arrangement, Move, cell, order, seek, applyAll}
 use Rattle.spec.specs.Ring.{wrap, frame, inRing, run, shove, push, opened, ringBehind, entryOpen, turnPlace, turnFor, ringEnter}
 use Rattle.spec.specs.State.{State, cellOf, robotOn, arrangementOf, across}
-use Rattle.theory.specs.Maps.State.{cell-of, cell-none, cell-robot, cell-empty}
+use Rattle.theory.specs.Maps.Cells.{cell-of, cell-none, cell-robot, cell-empty}
 use Rattle.theory.specs.Zones.Arrangements.{order-append, member→cell, cell-inside}
 use Rattle.theory.specs.Zones.CliqueMoves.{seek-ok}
 use Rattle.theory.specs.Zones.RingPush.{length-opened}
