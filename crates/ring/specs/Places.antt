@@ -7,7 +7,8 @@ use native.Mathlib.Omega.{arith}
 use native.Mathlib.Decide.{decLt}
 use Rattle.spec.specs.Ring.{wrap, ahead}
 use Rattle.theory.specs.Zones.Moves.{Next}
-use Rattle.theory.specs.Zones.RingTurns.{Round, wrap-lt, wrap-ge}
+use Rattle.theory.specs.Zones.Ring.Order.{Round}
+use Rattle.theory.specs.Zones.Ring.Frames.{wrap-lt, wrap-ge}
 
 -- "Forward in a ring means listed order, wrapping": the place after place i of m
 abbrev pub nextPlace : ℕ → ℕ → ℕ

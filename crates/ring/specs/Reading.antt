@@ -17,7 +17,7 @@ use Rattle.spec.specs.Ring.{ringCanLeave, ringCanEnter}
 use Rattle.theory.specs.Basics.Tests.{of-true, of-false, true-of, false-of}
 use Rattle.theory.specs.Maps.Cells.{cell-of, cell-none, cell-robot}
 use Rattle.theory.specs.Zones.Arrangements.{order-short, member→cell, cell→member, cell-inside}
-use Rattle.theory.specs.Zones.CliqueMoves.{seek-ok}
+use Rattle.theory.specs.Basics.Searches.{seek-ok}
 use Rattle.motion.specs.Across.{arrangement-length, arrangement-at, arrangement-next}
 use Rattle.motion.specs.Cells.{seek-at, seek-past, seek-end, seek-same, seek-other}
 
