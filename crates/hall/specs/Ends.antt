@@ -10,7 +10,7 @@ use lib.Seq.{take-take, take-all}
 use Rattle.spec.specs.Arrangement.{Arrangement, order, places}
 use Rattle.spec.specs.Outcome.{indexOf}
 use Rattle.spec.specs.Hall.{trips, toPlaces, hallMoves, below, above, lowerThan, hallLeave, hallEnter, hallEnd}
-use Rattle.theory.specs.Zones.HallOrder.{length-places}
+use Rattle.theory.specs.Zones.Hall.Places.{length-places}
 use Rattle.hall.specs.Trips.{tripsOf, trips-cut}
 use Rattle.hall.specs.Line.{Lined}
 use Rattle.hall.specs.Goals.{goalsFrom, goals-from, lowerOf, index-most}

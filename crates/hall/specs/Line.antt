@@ -9,7 +9,7 @@ use lib.Seq.{take-suc-set, take-all}
 use Rattle.spec.specs.Arrangement.{Arrangement, order, places}
 use Rattle.spec.specs.State as meaning
 use Rattle.theory.specs.Maps.Cells.{cell-of, cell-none}
-use Rattle.theory.specs.Zones.HallOrder.{length-places}
+use Rattle.theory.specs.Zones.Hall.Places.{length-places}
 use Rattle.motion.specs.Across.{arrangement-length, arrangement-next}
 
 -- the first n of the lists are an arrangement's robots and their places
