@@ -63,11 +63,13 @@ pub never : true ≡ false → ⊥
 never e = of-false {b = true} e tt
 
 -- the names as cells, as the code reads them
+-- where no name is 255
 plain : (list : List ℕ) → ((i : ℕ) → getD list i 0 ≢ 255) → map cellOf list ≡ named list
 unfolding named
 plain [] h = refl
 plain (x ∷ l) h = ap₂ (λ (c : ℕ) (a : Arrangement). c ∷ a) (cell-of (h 0)) (plain l (λ i. h (suc i)))
 
+-- with place j emptied, the name there does not matter
 pub named-cells : (list : List ℕ) (j : ℕ) → Numbered list j → set (map cellOf list) j 0 ≡ set (named list) j 0
 unfolding named
 named-cells [] j h = refl
@@ -173,6 +175,7 @@ enter-allowed s vs r j behind list e none = pick (lastFree (arrangementOf s vs))
 
 -- ---- the follow list of a drawn plan
 
+-- one place of the robots by place
 robots-cons : (x : ℕ) (a : Arrangement) → robotsOf (cellOf x ∷ a) ≡ x ∷ robotsOf a
 unfolding robotsOf
 robots-cons x a = pick (ℕ-discrete x 255)
@@ -181,6 +184,7 @@ robots-cons x a = pick (ℕ-discrete x 255)
     pick (yes e) = ap (λ (c : ℕ). robotsOf (c ∷ a)) (cell-none e) ∙ ap (λ (y : ℕ). y ∷ robotsOf a) (sym e)
     pick (no n) = ap (λ (c : ℕ). robotsOf (c ∷ a)) (cell-of n)
 
+-- the robots by place are those on the zone's vertices
 robots-all : (s : State) (vs : List ℕ) → map (robotOn s) vs ≡ robotsOf (arrangementOf s vs)
 unfolding robotsOf arrangementOf
 robots-all s [] = refl
