@@ -14,11 +14,11 @@ use Rattle.hall.proofs.trips.raise.Statement.{statement}
 use Rattle.hall.proofs.trips.raise.Tie as tie
 
 abbrev Inv-loop : tie.InvT-loop
-Inv-loop zone r from to out₀ run₀ at₀ out run at = (length out ≡ length out₀) × (from ≤ at)
+Inv-loop zone r from to out₀ run₀ stop at₀ out run at = (length out ≡ length out₀) × (from ≤ at)
     × (madeAll (worldOf run out) (across zone (up (r .0) (to - at) at)) ≡ madeAll (worldOf run₀ out₀) (across zone (up (r .0) (to - from) from)))
 
 abbrev μ-loop : tie.MeasureT-loop
-μ-loop zone r from to out₀ run₀ at₀ out run at = to - at
+μ-loop zone r from to out₀ run₀ stop at₀ out run at = to - at
 
 loop-holds : tie.Need-loop-holds Inv-loop μ-loop
 loop-holds c = (refl, search needs, refl)

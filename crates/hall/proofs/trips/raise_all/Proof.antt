@@ -40,12 +40,6 @@ shared-slice-read-p c = search needs
 shared-slice-read-q : tie.Need-shared-slice-read-q Inv-loop μ-loop
 shared-slice-read-q c = search needs
 
-cast-raise : tie.Need-cast-raise Inv-loop μ-loop
-cast-raise c = omega (arith, c .before .shared-slice-known6 .given (c .before .before .before .before .loop .left - 1))
-
-cast-raise-2 : tie.Need-cast-raise-2 Inv-loop μ-loop
-cast-raise-2 c = omega (arith, c .shared-slice-known7 .given (c .before .before .before .before .loop .left - 1))
-
 raise-requires : tie.Need-raise-requires Inv-loop μ-loop
 raise-requires c κs = search needs
 
@@ -96,8 +90,6 @@ raise-all-spec =
     shared-slice-read-r
     shared-slice-read-p
     shared-slice-read-q
-    cast-raise
-    cast-raise-2
     raise-requires
     sub-left
     loop-less
