@@ -1,5 +1,4 @@
 // The robots of a hall with their places, lowest first.
-ghost use mathlib.Core.Path.{_≡_};
 ghost use Prim.Native.Nat.{_≤_};
 ghost use lib.ListN.{length};
 ghost use Rattle.spec.specs.State.{arrangementOf};

@@ -1,6 +1,6 @@
 use borrow.Author.Needs.{needs}
 use native.Mathlib.Omega.{arith}
-use Prim.Native.Nat.{ℕ, _+_, _-_, _≤_, _<_}
+use Prim.Native.Nat.{ℕ, _+_, _-_, _≤_}
 use mathlib.Core.Path.{_≡_, refl, ap, sym, _∙_}
 use lib.ListN.{length, getD}
 use mathlib.Core.List.{List}
@@ -39,12 +39,6 @@ shared-slice-read-p c = search needs
 
 shared-slice-read-q : tie.Need-shared-slice-read-q Inv-loop μ-loop
 shared-slice-read-q c = search needs
-
-cast-raise : tie.Need-cast-raise Inv-loop μ-loop
-cast-raise c = omega (arith, c .before .shared-slice-known6 .given (c .before .before .before .before .loop .left - 1))
-
-cast-raise-2 : tie.Need-cast-raise-2 Inv-loop μ-loop
-cast-raise-2 c = omega (arith, c .shared-slice-known7 .given (c .before .before .before .before .loop .left - 1))
 
 raise-requires : tie.Need-raise-requires Inv-loop μ-loop
 raise-requires c κs = search needs
@@ -96,8 +90,6 @@ raise-all-spec =
     shared-slice-read-r
     shared-slice-read-p
     shared-slice-read-q
-    cast-raise
-    cast-raise-2
     raise-requires
     sub-left
     loop-less
