@@ -94,3 +94,10 @@ ahead-up m p j h e = ⊎-elim (λ w. omega arith) (λ w. omega arith) (wrap-is m
 pub ahead-round : (m p j : ℕ) → p < m → j < p → m - p + j ≡ ahead m p j
 unfolding ahead
 ahead-round m p j h e = ⊎-elim (λ w. omega arith) (λ w. omega arith) (wrap-is m (m + j - p))
+
+-- so many places on from p: before the last place, and round
+pub around-up : (m p k : ℕ) → p < m → k < m - p → p + k ≡ wrap m (p + k)
+around-up m p k h l = ⊎-elim (λ w. sym (w .1)) (λ w. omega arith) (wrap-is m (p + k))
+
+pub around-over : (m p k : ℕ) → p < m → m - p ≤ k → k - (m - p) ≡ wrap m (p + k)
+around-over m p k h l = ⊎-elim (λ w. omega arith) (λ w. omega arith) (wrap-is m (p + k))

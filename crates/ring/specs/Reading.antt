@@ -55,6 +55,16 @@ vacant-taken : (r : ℕ) (a : Arrangement) → vacant (suc r ∷ a) ≡ false
 unfolding vacant order
 vacant-taken r a = ne-eqb (suc (length (order a))) 0 (λ q. omega arith)
 
+-- a search ends inside, or at the size
+pub seek-within : (x : ℕ) (a : Arrangement) → seek x a ≤ length a
+unfolding seek
+seek-within x [] = omega arith
+seek-within x (y ∷ a) = at (ℕ-discrete x y) (seek-within x a)
+  where
+    at : Dec (x ≡ y) → seek x a ≤ length a → seek x (y ∷ a) ≤ suc (length a)
+    at (yes e) i = omega (arith, seek-same x y a e)
+    at (no n) i = omega (arith, seek-other x y a n)
+
 -- what a search finds stands there
 pub seek-finds : (x : ℕ) (a : Arrangement) → seek x a < length a → cell a (seek x a) ≡ x
 unfolding seek
