@@ -11,7 +11,7 @@ use borrow.Author.Tests.{eq-eqb, ne-eqb}
 use Rattle.spec.specs.Arrangement.{Arrangement, order, full, lastFree}
 use Rattle.spec.specs.State.{State, robotOn, cellOf, arrangementOf}
 use Rattle.theory.specs.Basics.Tests.{Eqb, same, other, eqb?}
-use Rattle.theory.specs.Maps.State.{cell-of, cell-none}
+use Rattle.theory.specs.Maps.Cells.{cell-of, cell-none}
 use Rattle.motion.specs.Across.{arrangement-length, arrangement-next}
 
 -- a robot counts, an empty place does not

@@ -11,7 +11,7 @@ use borrow.Author.Tests.{eq-eqb, ne-eqb}
 use Rattle.spec.specs.Arrangement.{Arrangement, Move, mv, seek, cell, full}
 use Rattle.spec.specs.Clique.{makeRoom, cliqueCanLeave, cliqueLeave}
 use Rattle.spec.specs.State.{cellOf, across, acrossMove}
-use Rattle.theory.specs.Maps.State.{cell-of, cell-none}
+use Rattle.theory.specs.Maps.Cells.{cell-of, cell-none}
 use Rattle.motion.specs.World.{World, made, madeAll}
 use Rattle.clique.specs.Places.{member-seek}
 

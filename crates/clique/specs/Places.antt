@@ -17,7 +17,7 @@ use Rattle.spec.specs.Outcome.{member}
 use Rattle.spec.specs.Arrangement.{Arrangement, seek, cell, order}
 use Rattle.spec.specs.State.{State, robotOn, cellOf, arrangementOf}
 use Rattle.theory.specs.Basics.Tests.{Eqb, same, other, eqb?, Ltb, less, more, ltb?}
-use Rattle.theory.specs.Maps.State.{cell-of, cell-none, cell-robot, cell-empty}
+use Rattle.theory.specs.Maps.Cells.{cell-of, cell-none, cell-robot, cell-empty}
 use Rattle.motion.specs.Cells.{seek-same, seek-other}
 use Rattle.motion.specs.Across.{arrangement-length, arrangement-at, arrangement-next}
 use Rattle.clique.specs.Counts.{eqb-suc}

@@ -7,3 +7,4 @@ pub mod Edges
 pub mod Kinds
 pub mod Map
 pub mod Tables
+pub mod Accepted

@@ -59,11 +59,11 @@ pub record Going (file : List ℕ) (m n z size from : ℕ) (s t : Table) (k : �
 
 -- ---- membership
 
-member-here : (v : ℕ) (l : List ℕ) → member v (v ∷ l) ≡ true
+pub member-here : (v : ℕ) (l : List ℕ) → member v (v ∷ l) ≡ true
 unfolding member
 member-here v l = simp (member, eq-eqb v v refl)
 
-member-there : (w v : ℕ) (l : List ℕ) → (w ≡ v → ⊥) → member w (v ∷ l) ≡ member w l
+pub member-there : (w v : ℕ) (l : List ℕ) → (w ≡ v → ⊥) → member w (v ∷ l) ≡ member w l
 unfolding member
 member-there w v l h = simp (member, ne-eqb w v h)
 

@@ -1,6 +1,7 @@
--- The services: their refusals, their answers, and what plans and move lists that they accept are.
+-- The services: their refusals, their answers, what plans and move lists that they accept are, and round sheets.
 pub mod Refusals
 pub mod Places
 pub mod Answers
 pub mod Judged
 pub mod Replayed
+pub mod Sheets

@@ -20,26 +20,26 @@ abbrev pub answered : Delivered → List ℕ → Answer
 answered d o = record { number = d .number; value = d .value; buffer = o }
 
 -- the payload of `len` bytes that stands in a buffer, zeros where the buffer ends before it
-unfoldable pub standing : ℕ → List ℕ → List ℕ
-standing len o = take len (payload o ++ replicate len 0)
+unfoldable pub payloadIn : ℕ → List ℕ → List ℕ
+payloadIn len o = take len (payload o ++ replicate len 0)
 
 -- the answer with the `len` bytes of payload that stand in a buffer
 unfoldable pub deliveredOf : ℕ → ℕ → ℕ → List ℕ → Answer
-deliveredOf kind limit len o = answerOf (length o) (fits kind limit (length o) (standing len o))
+deliveredOf kind limit len o = answerOf (length o) (fits kind limit (length o) (payloadIn len o))
 
 -- ---- the payload that stands in a buffer
 
 -- it is `len` bytes
-pub standing-length : (len : ℕ) (o : List ℕ) → length (standing len o) ≡ len
-unfolding standing
-standing-length len o =
+pub payloadIn-length : (len : ℕ) (o : List ℕ) → length (payloadIn len o) ≡ len
+unfolding payloadIn
+payloadIn-length len o =
     let r : length {A = ℕ} (replicate len 0) ≡ len = length-replicate len 0 in
     length-take-le len (payload o ++ replicate len 0) (omega (arith, length-append (payload o) (replicate len 0)))
 
 -- where there is room it is the first `len` bytes of the payload
-pub standing-is : (len : ℕ) (o : List ℕ) → (len + 503) / 504 * 512 ≤ length o → standing len o ≡ take len (payload o)
-unfolding standing
-standing-is len o h = take-append-le len (payload o) (replicate len 0) (omega (arith, payload-length o))
+pub payloadIn-is : (len : ℕ) (o : List ℕ) → (len + 503) / 504 * 512 ≤ length o → payloadIn len o ≡ take len (payload o)
+unfolding payloadIn
+payloadIn-is len o h = take-append-le len (payload o) (replicate len 0) (omega (arith, payload-length o))
 
 -- ---- the three ways out: 61, 60, the file
 
@@ -67,13 +67,13 @@ module _ (kind limit len : ℕ) (o : List ℕ) where
   -- 61, with the buffer zeroed
   pub delivered-over : 504 * limit < len → deliveredOf kind limit len o ≡ record { number = 61; value = 0; buffer = replicate (length o) 0 }
   unfolding deliveredOf answerOf
-  delivered-over h = let l = standing-length len o in ap (answerOf (length o)) (fits-over kind limit (length o) (standing len o) (omega arith))
+  delivered-over h = let l = payloadIn-length len o in ap (answerOf (length o)) (fits-over kind limit (length o) (payloadIn len o) (omega arith))
 
   -- 60, with the buffer zeroed
   pub delivered-short : len ≤ 504 * limit → length o < (len + 503) / 504 * 512
       → deliveredOf kind limit len o ≡ record { number = 60; value = 0; buffer = replicate (length o) 0 }
   unfolding deliveredOf answerOf
-  delivered-short h g = let l = standing-length len o in ap (answerOf (length o)) (fits-short kind limit (length o) (standing len o) (omega arith) (omega arith))
+  delivered-short h g = let l = payloadIn-length len o in ap (answerOf (length o)) (fits-short kind limit (length o) (payloadIn len o) (omega arith) (omega arith))
 
   -- the file, with zeros behind it
   pub delivered-whole : len ≤ 504 * limit → (len + 503) / 504 * 512 ≤ length o
@@ -81,9 +81,9 @@ module _ (kind limit len : ℕ) (o : List ℕ) where
       ≡ record { number = 0; value = (len + 503) / 504 * 512; buffer = fileOf kind (take len (payload o)) ++ replicate (length o - (len + 503) / 504 * 512) 0 }
   unfolding deliveredOf answerOf
   delivered-whole h g =
-      let l = standing-length len o in
-      let e : length (fileOf kind (take len (payload o))) ≡ (len + 503) / 504 * 512 = file-length kind (take len (payload o)) ∙ ap (λ (k : ℕ). (k + 503) / 504 * 512) (sym (ap length (standing-is len o g)) ∙ l) in
-      ap (answerOf (length o)) (fits-whole kind limit (length o) (standing len o) (omega arith) (omega arith) ∙ ap (λ (p : List ℕ). ok (fileOf kind p)) (standing-is len o g))
+      let l = payloadIn-length len o in
+      let e : length (fileOf kind (take len (payload o))) ≡ (len + 503) / 504 * 512 = file-length kind (take len (payload o)) ∙ ap (λ (k : ℕ). (k + 503) / 504 * 512) (sym (ap length (payloadIn-is len o g)) ∙ l) in
+      ap (answerOf (length o)) (fits-whole kind limit (length o) (payloadIn len o) (omega arith) (omega arith) ∙ ap (λ (p : List ℕ). ok (fileOf kind p)) (payloadIn-is len o g))
       ∙ rw e
 
   -- ---- what callers cite
@@ -93,16 +93,16 @@ module _ (kind limit len : ℕ) (o : List ℕ) where
       → deliveredOf kind limit len o ≡ answerOf (length o) (fits kind limit (length o) p)
   unfolding deliveredOf
   delivered-is p e h =
-      let l = standing-length len o in
+      let l = payloadIn-length len o in
       ⊎-elim
       (λ (q : 504 * limit < len).
-      ap (answerOf (length o)) (fits-over kind limit (length o) (standing len o) (omega arith) ∙ sym (fits-over kind limit (length o) p (omega arith))))
+      ap (answerOf (length o)) (fits-over kind limit (length o) (payloadIn len o) (omega arith) ∙ sym (fits-over kind limit (length o) p (omega arith))))
       (λ (q : len ≤ 504 * limit).
       ⊎-elim
       (λ (r : length o < (len + 503) / 504 * 512).
-      ap (answerOf (length o)) (fits-short kind limit (length o) (standing len o) (omega arith) (rw l r) ∙ sym (fits-short kind limit (length o) p (omega arith) (rw e r))))
+      ap (answerOf (length o)) (fits-short kind limit (length o) (payloadIn len o) (omega arith) (rw l r) ∙ sym (fits-short kind limit (length o) p (omega arith) (rw e r))))
       (λ (r : (len + 503) / 504 * 512 ≤ length o).
-      ap (λ (x : List ℕ). answerOf (length o) (fits kind limit (length o) x)) (standing-is len o r ∙ h q r))
+      ap (λ (x : List ℕ). answerOf (length o) (fits kind limit (length o) x)) (payloadIn-is len o r ∙ h q r))
       (lt-or-ge (length o) ((len + 503) / 504 * 512)))
       (lt-or-ge (504 * limit) len)
 

@@ -1,5 +1,5 @@
 -- A payload's bytes laid to their places in a buffer; what falls past the buffer's end is lost.
-use Prim.Native.Nat.{ℕ, zero, suc, _+_, _*_, _/_, _≤_, _<_}
+use Prim.Native.Nat.{ℕ, zero, suc, _+_, _*_, _/_, _≤_, _<_, _%_}
 use mathlib.Core.Path.{_≡_, refl, ap, sym, _∙_}
 use mathlib.Core.List.{List, [], _∷_, _++_}
 use lib.ListN.{length, getD, take, set, length-set}
@@ -33,6 +33,15 @@ laid-append o off [] ys = let e : off ≡ off + 0 = omega arith in ap (λ (k : �
 laid-append o off (x ∷ xs) ys =
     let e : off + 1 + length xs ≡ off + suc (length xs) = omega arith in
     laid-append (laid o off x) (off + 1) xs ys ∙ ap (λ (k : ℕ). laidAll (laidAll (laid o off x) (off + 1) xs) k ys) e
+
+-- three bytes that one block holds stand side by side
+pub laid-three : (o : List ℕ) (off a b c : ℕ) → off % 504 < 502
+    → set (set (set o (placeOf off) a) (placeOf off + 1) b) (placeOf off + 2) c ≡ laidAll o off (a ∷ b ∷ c ∷ [])
+laid-three o off a b c h =
+    let e : placeOf off + 1 ≡ placeOf (off + 1) = omega arith in
+    let g : placeOf off + 2 ≡ placeOf (off + 1 + 1) = omega arith in
+    ap (λ (i : ℕ). set (set (set o (placeOf off) a) i b) (placeOf off + 2) c) e
+    ∙ ap (λ (i : ℕ). set (set (set o (placeOf off) a) (placeOf (off + 1)) b) i c) g
 
 -- two bytes of a payload have two places
 pub place-apart : (i j : ℕ) → i < j → placeOf i ≡ placeOf j → ⊥

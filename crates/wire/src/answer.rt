@@ -1,6 +1,6 @@
 // An answer written where it will stand in the buffer, then finished in place: heads, fill, padding, checksums.
 ghost use mathlib.Core.Path.{_≡_};
-ghost use mathlib.Core.List.{_++_};
+ghost use mathlib.Core.List.{[], _∷_, _++_};
 ghost use mathlib.Core.Logic.{_⊎_};
 ghost use Prim.Native.Nat.{_+_, _-_, _*_, _/_, _<_, _≤_};
 ghost use lib.ListN.{length, take, drop, replicate};
@@ -32,6 +32,39 @@ pub fn put_word(out: &mut [u8], off: usize, n: usize)
         put_byte(out, off, (n / 256 % 256) as u8);
         put_byte(out, off + 1, (n % 256) as u8);
     }
+}
+
+// Puts three bytes to their places from `off` on, one by one.
+fn put_apart(out: &mut [u8], off: usize, a: u8, b: u8, c: u8)
+    ensures { λ r. ⌜ now (out .exit) ≡ laidAll (now (out .entry)) off (a ∷ b ∷ c ∷ []) ⌝ }
+{
+    if off < out.len() {
+        put_byte(out, off, a);
+        put_byte(out, off + 1, b);
+        put_byte(out, off + 2, c);
+    }
+}
+
+// Puts three bytes, as those of a move, to their places from `off` on: at once where one block and the buffer have all three.
+pub fn put_three(out: &mut [u8], off: usize, a: u8, b: u8, c: u8)
+    ensures { λ r. ⌜ now (out .exit) ≡ laidAll (now (out .entry)) off (a ∷ b ∷ c ∷ []) ⌝ }
+{
+    if out.len() <= off {
+        return;
+    }
+    let within = off % 504;
+    if within > 501 {
+        put_apart(out, off, a, b, c);
+        return;
+    }
+    let at = (off / 504) * 512 + 6 + within;
+    if out.len() <= at + 2 {
+        put_apart(out, off, a, b, c);
+        return;
+    }
+    out[at] = a;
+    out[at + 1] = b;
+    out[at + 2] = c;
 }
 
 // Zeroes the bytes from `from` to before `end`.

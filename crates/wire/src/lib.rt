@@ -12,6 +12,7 @@ pub mod payload;
 
 pub use answer::deliver;
 pub use answer::put_byte;
+pub use answer::put_three;
 pub use answer::put_word;
 pub use answer::zero;
 pub use check::check_file;

@@ -41,6 +41,15 @@ cell-empty r e = go (ℕ-discrete r 255)
     go (yes h) = h
     go (no h) = absurd (omega (arith, sym (cell-of h) ∙ e))
 
+-- one cell, one robot
+pub cell-injective : (r t : ℕ) → cellOf r ≡ cellOf t → r ≡ t
+cell-injective r t e = case (ℕ-discrete r 255) (ℕ-discrete t 255)
+  where
+    case : Dec (r ≡ 255) → Dec (t ≡ 255) → r ≡ t
+    case (yes p) (yes q) = p ∙ sym q
+    case (no p) q = sym (cell-robot t r (sym e ∙ cell-of p) .0)
+    case (yes p) (no q) = cell-robot r t (e ∙ cell-of q) .0
+
 -- ---- the arrangement of vertices vs under robots rs
 
 -- the cells of vertices vs under robots rs

@@ -4,17 +4,17 @@ use mathlib.Core.Logic.{_≢_}
 use mathlib.Core.List.{List, [], _∷_}
 use Prim.Native.Nat.{ℕ, suc, _<_}
 use native.Mathlib.Omega.{arith}
+use lib.Seq.{ext-getD}
 use lib.ListN.{length, set, length-set}
 use Rattle.spec.specs.Outcome.{indexOf}
 use Rattle.spec.specs.Layout.{Map, zoneOf, zoneAt}
-use Rattle.spec.specs.Arrangement.{Arrangement, Move, mv, apply}
-use Rattle.spec.specs.State.{State, robotOn, moved, movedAll, cellOf, arrangementOf, acrossMove, across, stepOf, drawnSteps}
-use Rattle.spec.specs.Terms.{Inside, Runs, done, _then_, vertexAt, sizeOf, arrangementIn, zoneCount, kindOf}
-use Rattle.theory.specs.Basics.Tests.{eqb-false, eqb-true}
+use Rattle.spec.specs.Arrangement.{cell, Arrangement, Move, mv, apply}
+use Rattle.spec.specs.State.{State, robotOn, moved, movedAll, cellOf, arrangementOf, acrossMove, across, drawnSteps}
+use Rattle.spec.specs.Terms.{placeOf, Inside, Runs, done, _then_, vertexAt, sizeOf, arrangementIn, zoneCount, kindOf}
 use Rattle.theory.specs.Zones.Arrangements.{cell-inside}
 use Rattle.theory.specs.Maps.Layout.{Accepted}
-use Rattle.theory.specs.Maps.Cells.{cell-of, cell-none, cell-robot, cell-empty, onto, arrangement-length, arrangement-cell, onto-other, onto-here}
-use Rattle.theory.specs.Maps.Moves.{Legal, Legals, stay, go}
+use Rattle.theory.specs.Maps.Cells.{cell-of, cell-none, cell-robot, cell-empty, onto, arrangement-length, arrangement-cell, onto-other, onto-here, cell-injective}
+use Rattle.theory.specs.Maps.Moves.{Legal, Legals, stay, go, silent-move}
 use Rattle.theory.specs.Maps.Consistent.{Consistent, consistent-moved}
 
 module _ (m : Map) (g : Accepted m) where
@@ -59,6 +59,22 @@ module _ (m : Map) (g : Accepted m) where
   arrangement-enter s x z j l h a e n r =
       rw e (set-in (set (s .robots) (x .from) 255) z j (x .robot) (rw (e, ← length-set (s .robots) (x .from) 255) at l) h a ∙ rw (set-away (s .robots) z (x .from) 255 h n, cell-of r))
 
+  -- ---- states with the same robots
+
+  -- the same robots, the same arrangements
+  pub same-arrangements : (s t : State) → ((v : ℕ) → v < m .size → robotOn s v ≡ robotOn t v) → (z : ℕ) → z < zoneCount m → arrangementIn m s z ≡ arrangementIn m t z
+  same-arrangements s t e z h = ext-getD 0 _ _ (arrangement-length s (zoneAt m z) ∙ sym (arrangement-length t (zoneAt m z)))
+      (λ l a. let b : l < sizeOf m z = omega (arith, arrangement-length s (zoneAt m z)) in
+      arrangement-cell s (zoneAt m z) l b ∙ ap cellOf (e (vertexAt m z l) (g .inside z l h b .0)) ∙ sym (arrangement-cell t (zoneAt m z) l b))
+
+  -- and the other way
+  pub arrangements-same : (s t : State) → ((z : ℕ) → z < zoneCount m → arrangementIn m s z ≡ arrangementIn m t z) → (v : ℕ) → v < m .size → robotOn s v ≡ robotOn t v
+  arrangements-same s t e v h =
+      let p = g .placed v h in
+      let z = zoneOf m v in
+      let l = placeOf m v in
+      cell-injective _ _ (rw (p .vertex) at (sym (arrangement-cell s (zoneAt m z) l (p .place)) ∙ ap (λ a. cell a l) (e z (p .zone)) ∙ arrangement-cell t (zoneAt m z) l (p .place)))
+
   -- ---- moves inside a zone
 
   module _ (k : ℕ) (s : State) (h : Consistent m k s) (z : ℕ) (hz : z < zoneCount m) where
@@ -91,16 +107,6 @@ module _ (m : Map) (g : Accepted m) where
     pub away : (y : ℕ) → y < zoneCount m → y ≢ z → arrangementIn m (movedAll s xs) y ≡ arrangementIn m s y
     pub silent : drawnSteps m s xs ≡ []
 
-  -- a move inside a zone draws no step
-  pub silent-move : (s : State) (x : Move) (xs : List Move) → zoneOf m (x .from) ≡ zoneOf m (x .to) → drawnSteps m s (x ∷ xs) ≡ drawnSteps m (moved s x) xs
-  unfolding drawnSteps
-  silent-move s x xs e = rw (eqb-true {m = zoneOf m (x .from)} {n = zoneOf m (x .to)} e, drawnSteps)
-
-  -- a move between zones draws one
-  pub crossing-move : (s : State) (x : Move) (xs : List Move) → zoneOf m (x .from) ≢ zoneOf m (x .to) → drawnSteps m s (x ∷ xs) ≡ stepOf m s x ∷ drawnSteps m (moved s x) xs
-  unfolding drawnSteps
-  crossing-move s x xs e = rw (eqb-false {m = zoneOf m (x .from)} {n = zoneOf m (x .to)} e, drawnSteps)
-
   module _ (k z : ℕ) (hz : z < zoneCount m) where
     -- one move inside a zone, then the rest
     acted-on : {x : Move} (xs : List Move) {s : State} {b : Arrangement} → Consistent m k s → Inside (kindOf m z) x (arrangementIn m s z)
@@ -117,7 +123,7 @@ module _ (m : Map) (g : Accepted m) where
           legals = go l (r .legals);
           here = r .here;
           away = λ w hw n. r .away w hw n ∙ arrangement-away s y w hw (λ e. n (sym e ∙ a .1)) (λ e. n (sym e ∙ b .1));
-          silent = silent-move s y (across (zoneAt m z .vertices) xs) (a .1 ∙ sym (b .1)) ∙ r .silent;
+          silent = silent-move m s y (across (zoneAt m z .vertices) xs) (a .1 ∙ sym (b .1)) ∙ r .silent;
         }
 
     -- a run in a zone's arrangement acts so on the map

@@ -142,15 +142,15 @@ module _ {n : ℕ} where
       ∙ zones-at r (i + 1) z v (le-of-suc-le-suc h) k ∙ omega arith
 
 -- v is in zone z
-abbrev Within : List Zone → ℕ → ℕ → Type 0
-Within zs v z = (z < length zs) × In v (getD zs z noZone .vertices)
+abbrev InZone : List Zone → ℕ → ℕ → Type 0
+InZone zs v z = (z < length zs) × In v (getD zs z noZone .vertices)
 
 -- a listed vertex is in some zone
-pub zone-with : (zs : List Zone) (v : ℕ) → In v (listed zs) → (z : ℕ) × Within zs v z
+pub zone-with : (zs : List Zone) (v : ℕ) → In v (listed zs) → (z : ℕ) × InZone zs v z
 unfolding listed
 zone-with [] v h = absurd (unfold member in h)
 zone-with (y ∷ zs) v h = go (in-append v (y .vertices) (listed zs) h) (zone-with zs v)
   where
-    go : In v (y .vertices) ⊎ In v (listed zs) → (In v (listed zs) → (z : ℕ) × Within zs v z) → (z : ℕ) × Within (y ∷ zs) v z
+    go : In v (y .vertices) ⊎ In v (listed zs) → (In v (listed zs) → (z : ℕ) × InZone zs v z) → (z : ℕ) × InZone (y ∷ zs) v z
     go (inl h) ih = (0, (omega arith, h))
     go (inr h) ih = let w = ih h in (suc (w .0), (omega (arith, w .1 .0), w .1 .1))

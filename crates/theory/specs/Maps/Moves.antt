@@ -12,7 +12,7 @@ use lib.Dec.{T, eqb, eqb→eq, not-T, T-not}
 use Rattle.spec.specs.Layout.{Map, joined, zoneOf}
 use Rattle.spec.specs.Arrangement.{Move}
 use Rattle.spec.specs.State.{State, robotOn, moved, movedAll, legal, legalAll, Step, stepOf, drawnSteps}
-use Rattle.theory.specs.Basics.Tests.{true-of, of-true, eq→eqb, and-both, and-left, and-right}
+use Rattle.theory.specs.Basics.Tests.{eqb-true, eqb-false, true-of, of-true, eq→eqb, and-both, and-left, and-right}
 
 -- ---- legal moves
 
@@ -71,7 +71,17 @@ unfolding movedAll
 legals-append ys stay r = r
 legals-append ys (go l k) r = go l (legals-append ys k r)
 
--- and draw the steps of one, then of the other
+-- a move inside a zone draws no step
+pub silent-move : (m : Map) (s : State) (x : Move) (xs : List Move) → zoneOf m (x .from) ≡ zoneOf m (x .to) → drawnSteps m s (x ∷ xs) ≡ drawnSteps m (moved s x) xs
+unfolding drawnSteps
+silent-move m s x xs e = rw (eqb-true {m = zoneOf m (x .from)} {n = zoneOf m (x .to)} e, drawnSteps)
+
+-- a move between zones draws one
+pub crossing-move : (m : Map) (s : State) (x : Move) (xs : List Move) → zoneOf m (x .from) ≢ zoneOf m (x .to) → drawnSteps m s (x ∷ xs) ≡ stepOf m s x ∷ drawnSteps m (moved s x) xs
+unfolding drawnSteps
+crossing-move m s x xs e = rw (eqb-false {m = zoneOf m (x .from)} {n = zoneOf m (x .to)} e, drawnSteps)
+
+-- lists one after the other draw the steps of one, then of the other
 pub drawn-append : (m : Map) (s : State) (xs ys : List Move) → drawnSteps m s (xs ++ ys) ≡ drawnSteps m s xs ++ drawnSteps m (movedAll s xs) ys
 unfolding drawnSteps movedAll
 drawn-append m s [] ys = refl

@@ -48,16 +48,16 @@ padding (v ∷ vs) n (suc r) h = padding vs n r (le-of-suc-le-suc h)
 
 module _ (m : Map) (g : Accepted m) (vs : List ℕ) (f : Fresh (m .size) [] vs) (few : length vs ≤ 64) where
   -- what stands on v
-  data Stands (v : ℕ) : ℕ → Type 0 where
-    stands : (i : ℕ) → i < length vs → getD vs i 0 ≡ v → Stands v i
-    empty : Stands v 255
+  data Occupant (v : ℕ) : ℕ → Type 0 where
+    stands : (i : ℕ) → i < length vs → getD vs i 0 ≡ v → Occupant v i
+    empty : Occupant v 255
 
   -- a vertex has the robot that starts there, or none
-  stands-on : (v : ℕ) → v < m .size → Stands v (robotOn (standing vs) v)
+  stands-on : (v : ℕ) → v < m .size → Occupant v (robotOn (standing vs) v)
   unfolding standing
   stands-on v h = case (member v vs) refl
     where
-      case : (b : Bool) → member v vs ≡ b → Stands v (getD (put (replicate 128 255) 0 vs) v 255)
+      case : (b : Bool) → member v vs ≡ b → Occupant v (getD (put (replicate 128 255) 0 vs) v 255)
       case true e =
           let i = index-in v vs (of-true e) in
           let q : getD (put (replicate 128 255) 0 vs) v 255 ≡ indexOf v vs = rw (i .1) at (put-at f (replicate 128 255) 0 (indexOf v vs) (omega (arith, length-replicate {A = ℕ} 128 255, g .small)) (i .0)) ∙ omega arith in
@@ -86,15 +86,15 @@ module _ (m : Map) (g : Accepted m) (vs : List ℕ) (f : Fresh (m .size) [] vs) 
     out = λ r h. padding vs (64 - length vs) r h;
   }
     where
-      known : (v r : ℕ) → Stands v r → r ≢ 255 → r < length vs
+      known : (v r : ℕ) → Occupant v r → r ≢ 255 → r < length vs
       known v r (stands i h e) n = h
       known v r empty n = absurd (n refl)
 
-      once : (u v r t : ℕ) → Stands u r → Stands v t → r ≢ 255 → r ≡ t → u ≡ v
+      once : (u v r t : ℕ) → Occupant u r → Occupant v t → r ≢ 255 → r ≡ t → u ≡ v
       once u v r t (stands i h e) (stands j k d) n q = sym e ∙ ap (λ c. getD vs c 0) q ∙ d
       once u v r t (stands i h e) empty n q = absurd (n q)
       once u v r t empty w n q = absurd (n refl)
 
-      up : (v r : ℕ) → Stands v r → r ≢ 255 → getD (standing vs .vertices) r 255 ≡ v
+      up : (v r : ℕ) → Occupant v r → r ≢ 255 → getD (standing vs .vertices) r 255 ≡ v
       up v r (stands i h e) n = vertex i h ∙ e
       up v r empty n = absurd (n refl)

@@ -7,12 +7,10 @@ use native.Mathlib.Omega.{arith}
 use native.Mathlib.Decide.{decLt, ℕ-discrete}
 use lib.ListN.{length, getD, set, length-set}
 use lib.Seq.{getD-set-same, getD-set-other, ext-getD}
-use Rattle.spec.specs.Layout.{Map, zoneOf, zoneAt}
-use Rattle.spec.specs.Arrangement.{Move, cell}
-use Rattle.spec.specs.State.{State, robotOn, moved, movedAll, cellOf}
-use Rattle.spec.specs.Terms.{vertexAt, sizeOf, arrangementIn, zoneCount, placeOf}
+use Rattle.spec.specs.Layout.{Map}
+use Rattle.spec.specs.Arrangement.{Move}
+use Rattle.spec.specs.State.{State, robotOn, moved, movedAll}
 use Rattle.theory.specs.Maps.Layout.{Accepted}
-use Rattle.theory.specs.Maps.Cells.{cell-of, cell-robot, arrangement-length, arrangement-cell}
 use Rattle.theory.specs.Maps.Moves.{Legal, Legals, stay, go, After, at-to, at-from, at-rest}
 use Rattle.theory.specs.Maps.Consistent.{Consistent, legal-after, consistent-moved}
 
@@ -96,26 +94,3 @@ module _ (m : Map) (g : Accepted m) (k : ℕ) (few : k ≤ 64) where
           let q : robotOn t (getD (s .vertices) r 255) ≡ r = sym (e (getD (s .vertices) r 255) (d .0)) ∙ d .1 in
           sym (i .up (getD (s .vertices) r 255) (d .0) (omega arith)) ∙ ap (λ c. getD (t .vertices) c 255) q
       case r (no a) = h .out r (omega arith) ∙ sym (i .out r (omega arith))
-
-  -- the same robots, the same arrangements
-  pub same-arrangements : (s t : State) → ((v : ℕ) → v < m .size → robotOn s v ≡ robotOn t v) → (z : ℕ) → z < zoneCount m → arrangementIn m s z ≡ arrangementIn m t z
-  same-arrangements s t e z h = ext-getD 0 _ _ (arrangement-length s (zoneAt m z) ∙ sym (arrangement-length t (zoneAt m z)))
-      (λ l a. let b : l < sizeOf m z = omega (arith, arrangement-length s (zoneAt m z)) in
-      arrangement-cell s (zoneAt m z) l b ∙ ap cellOf (e (vertexAt m z l) (g .inside z l h b .0)) ∙ sym (arrangement-cell t (zoneAt m z) l b))
-
-  -- one cell, one robot
-  cell-injective : (r t : ℕ) → cellOf r ≡ cellOf t → r ≡ t
-  cell-injective r t e = case (ℕ-discrete r 255) (ℕ-discrete t 255)
-    where
-      case : Dec (r ≡ 255) → Dec (t ≡ 255) → r ≡ t
-      case (yes p) (yes q) = p ∙ sym q
-      case (no p) q = sym (cell-robot t r (sym e ∙ cell-of p) .0)
-      case (yes p) (no q) = cell-robot r t (e ∙ cell-of q) .0
-
-  -- and the other way
-  pub arrangements-same : (s t : State) → ((z : ℕ) → z < zoneCount m → arrangementIn m s z ≡ arrangementIn m t z) → (v : ℕ) → v < m .size → robotOn s v ≡ robotOn t v
-  arrangements-same s t e v h =
-      let p = g .placed v h in
-      let z = zoneOf m v in
-      let l = placeOf m v in
-      cell-injective _ _ (rw (p .2) at (sym (arrangement-cell s (zoneAt m z) l (p .1)) ∙ ap (λ a. cell a l) (e z (p .0)) ∙ arrangement-cell t (zoneAt m z) l (p .1)))

@@ -10,7 +10,7 @@ use Rattle.spec.specs.Layout.{Map, zoneOf, zoneAt}
 use Rattle.spec.specs.Arrangement.{Move, cell}
 use Rattle.spec.specs.ZoneKind.{behindOf}
 use Rattle.spec.specs.State.{State, robotOn, moved, movedAll, Step, stepOf}
-use Rattle.spec.specs.Terms.{Reachable, SameTuple, Abstract, ends, makes, IsState, vertexAt, sizeOf, arrangementIn, zoneCount, kindOf, placeOf}
+use Rattle.spec.specs.Terms.{Reachable, SameTuple, Abstract, ends, makes, IsState, vertexAt, arrangementIn, zoneCount, kindOf, placeOf, Stands}
 use Rattle.theory.specs.Maps.Layout.{Accepted}
 use Rattle.theory.specs.Maps.Cells.{cell-of, cell-none, arrangement-length, arrangement-cell}
 use Rattle.theory.specs.Maps.Moves.{Legal, is-legal, moved-append}
@@ -29,13 +29,13 @@ module _ (m : Map) (g : Accepted m) where
   pub on-cell : (s : State) (v r : ℕ) → v < m .size → r ≢ 255 → robotOn s v ≡ r → cell (arrangementIn m s (zoneOf m v)) (placeOf m v) ≡ suc r
   on-cell s v r h n e =
       let p = g .placed v h in
-      arrangement-cell s (zoneAt m (zoneOf m v)) (placeOf m v) (p .1) ∙ rw (p .2, e) (cell-of n)
+      arrangement-cell s (zoneAt m (zoneOf m v)) (placeOf m v) (p .place) ∙ rw (p .vertex, e) (cell-of n)
 
   -- and the place of an empty vertex is empty
   pub off-cell : (s : State) (v : ℕ) → v < m .size → robotOn s v ≡ 255 → cell (arrangementIn m s (zoneOf m v)) (placeOf m v) ≡ 0
   off-cell s v h e =
       let p = g .placed v h in
-      arrangement-cell s (zoneAt m (zoneOf m v)) (placeOf m v) (p .1) ∙ rw (p .2) (cell-none e)
+      arrangement-cell s (zoneAt m (zoneOf m v)) (placeOf m v) (p .place) ∙ rw (p .vertex) (cell-none e)
 
 -- ---- a crossing from a state of the same tuple
 
@@ -46,11 +46,11 @@ module _ (m : Map) (g : Accepted m) (k : ℕ) (few : k ≤ 64) (q : State) (hq :
   crossed = g .ends (x .from) (x .to) (l .near)
 
   -- where its start stands
-  pu : (zoneOf m (x .from) < zoneCount m) × (placeOf m (x .from) < sizeOf m (zoneOf m (x .from))) × (vertexAt m (zoneOf m (x .from)) (placeOf m (x .from)) ≡ x .from)
+  pu : Stands m (x .from) (zoneOf m (x .from)) (placeOf m (x .from))
   pu = g .placed (x .from) (crossed .0)
 
   -- where its end stands
-  pv : (zoneOf m (x .to) < zoneCount m) × (placeOf m (x .to) < sizeOf m (zoneOf m (x .to))) × (vertexAt m (zoneOf m (x .to)) (placeOf m (x .to)) ≡ x .to)
+  pv : Stands m (x .to) (zoneOf m (x .to)) (placeOf m (x .to))
   pv = g .placed (x .to) (crossed .1)
 
   -- in t its robot is at from
@@ -63,11 +63,11 @@ module _ (m : Map) (g : Accepted m) (k : ℕ) (few : k ≤ 64) (q : State) (hq :
 
   -- the left zone is in the same configuration in q and in t
   reach-u : Reachable (kindOf m (zoneOf m (x .from))) (arrangementIn m q (zoneOf m (x .from))) (arrangementIn m t (zoneOf m (x .from)))
-  reach-u = tuple-at m q t qt (zoneOf m (x .from)) (pu .0)
+  reach-u = tuple-at m q t qt (zoneOf m (x .from)) (pu .zone)
 
   -- so is the entered one
   reach-v : Reachable (kindOf m (zoneOf m (x .to))) (arrangementIn m q (zoneOf m (x .to))) (arrangementIn m t (zoneOf m (x .to)))
-  reach-v = tuple-at m q t qt (zoneOf m (x .to)) (pv .0)
+  reach-v = tuple-at m q t qt (zoneOf m (x .to)) (pv .zone)
 
   -- so the robot is in the left zone in q
   stood : (j : ℕ) × (cell (arrangementIn m q (zoneOf m (x .from))) j ≡ suc (x .robot))
@@ -76,12 +76,12 @@ module _ (m : Map) (g : Accepted m) (k : ℕ) (few : k ≤ 64) (q : State) (hq :
   -- and is numbered below k
   robot-known : x .robot < k
   robot-known =
-      let a = robot-at m g k few q hq (zoneOf m (x .from)) (pu .0) (stood .0) (x .robot) (stood .1) in
-      rw (a .1) at (hq .known (vertexAt m (zoneOf m (x .from)) (stood .0)) (g .inside (zoneOf m (x .from)) (stood .0) (pu .0) (a .0) .0) (λ e. a .2 (sym (a .1) ∙ e)))
+      let a = robot-at m g k few q hq (zoneOf m (x .from)) (pu .zone) (stood .0) (x .robot) (stood .1) in
+      rw (a .1) at (hq .known (vertexAt m (zoneOf m (x .from)) (stood .0)) (g .inside (zoneOf m (x .from)) (stood .0) (pu .zone) (a .0) .0) (λ e. a .2 (sym (a .1) ∙ e)))
 
   -- and is not in the entered zone
   absent-v : Absent (arrangementIn m q (zoneOf m (x .to))) (x .robot)
-  absent-v = absent m g k few q hq (zoneOf m (x .to)) (zoneOf m (x .from)) (pv .0) (pu .0) (λ e. n (sym e)) (stood .0) (x .robot) (stood .1)
+  absent-v = absent m g k few q hq (zoneOf m (x .to)) (zoneOf m (x .from)) (pv .zone) (pu .zone) (λ e. n (sym e)) (stood .0) (x .robot) (stood .1)
 
   -- the neighbour that the step names
   behind : ℕ
@@ -106,12 +106,12 @@ module _ (m : Map) (g : Accepted m) (k : ℕ) (few : k ≤ 64) (q : State) (hq :
     near = l .near;
     apart = n;
     leaves = laws (kindOf m (zoneOf m (x .from))) .can-leave (arrangementIn m q (zoneOf m (x .from))) (arrangementIn m t (zoneOf m (x .from))) (x .robot) (placeOf m (x .from))
-        (proper m g k few q hq (zoneOf m (x .from)) (pu .0) .once) reach-u cell-u;
+        (proper m g k few q hq (zoneOf m (x .from)) (pu .zone) .once) reach-u cell-u;
     room = rw (kept reach-v .as-full)
-        (not-full (arrangementIn m t (zoneOf m (x .to))) (placeOf m (x .to)) (rw (arrangement-length t (zoneAt m (zoneOf m (x .to)))) (pv .1)) cell-v);
+        (not-full (arrangementIn m t (zoneOf m (x .to))) (placeOf m (x .to)) (rw (arrangement-length t (zoneAt m (zoneOf m (x .to)))) (pv .place)) cell-v);
     listed = listed;
-    enters = unfold behind list in can-enter (kindOf m (zoneOf m (x .to))) (arrangementIn m q (zoneOf m (x .to))) (proper m g k few q hq (zoneOf m (x .to)) (pv .0)) (x .robot) (placeOf m (x .to))
-        (rw (arrangement-length q (zoneAt m (zoneOf m (x .to)))) (pv .1)) (arrangementIn m t (zoneOf m (x .to))) list reach-v cell-v
+    enters = unfold behind list in can-enter (kindOf m (zoneOf m (x .to))) (arrangementIn m q (zoneOf m (x .to))) (proper m g k few q hq (zoneOf m (x .to)) (pv .zone)) (x .robot) (placeOf m (x .to))
+        (rw (arrangement-length q (zoneAt m (zoneOf m (x .to)))) (pv .place)) (arrangementIn m t (zoneOf m (x .to))) list reach-v cell-v
         (list-filled (kindOf m (zoneOf m (x .to))) (arrangementIn m t (zoneOf m (x .to))) (placeOf m (x .to)) (x .robot));
   }
 
@@ -128,7 +128,7 @@ module _ (m : Map) (g : Accepted m) (k : ℕ) (few : k ≤ 64) (q : State) (hq :
   same-u : Reachable (kindOf m (zoneOf m (x .from))) (set (step-made .b) (placeOf m (x .from)) 0) (set (arrangementIn m t (zoneOf m (x .from))) (placeOf m (x .from)) 0)
   same-u =
       laws (kindOf m (zoneOf m (x .from))) .left-same (step-made .b) (arrangementIn m t (zoneOf m (x .from))) (placeOf m (x .from)) (x .robot)
-      (kept (step-made .out) .distinct (proper m g k few q hq (zoneOf m (x .from)) (pu .0) .once)) (reach-trans (reach-sym (step-made .out)) reach-u) (step-made .there) cell-u
+      (kept (step-made .out) .distinct (proper m g k few q hq (zoneOf m (x .from)) (pu .zone) .once)) (reach-trans (reach-sym (step-made .out)) reach-u) (step-made .there) cell-u
 
   -- so is the entered zone
   same-v : Reachable (kindOf m (zoneOf m (x .to))) (set (step-made .c) (placeOf m (x .to)) (suc (x .robot))) (set (arrangementIn m t (zoneOf m (x .to))) (placeOf m (x .to)) (suc (x .robot)))
@@ -136,8 +136,8 @@ module _ (m : Map) (g : Accepted m) (k : ℕ) (few : k ≤ 64) (q : State) (hq :
   same-v =
       let kd = kindOf m (zoneOf m (x .to)) in
       let ct = reach-trans (reach-sym (step-made .into)) reach-v in
-      entered-same kd (step-made .c) (reach-proper (step-made .into) (proper m g k few q hq (zoneOf m (x .to)) (pv .0))) (x .robot) (placeOf m (x .to))
-      (rw (← kept (step-made .into) .long) (rw (arrangement-length q (zoneAt m (zoneOf m (x .to)))) (pv .1))) (arrangementIn m t (zoneOf m (x .to)))
+      entered-same kd (step-made .c) (reach-proper (step-made .into) (proper m g k few q hq (zoneOf m (x .to)) (pv .zone))) (x .robot) (placeOf m (x .to))
+      (rw (← kept (step-made .into) .long) (rw (arrangement-length q (zoneAt m (zoneOf m (x .to)))) (pv .place))) (arrangementIn m t (zoneOf m (x .to)))
       (reach-absent (step-made .into) absent-v) ct (step-made .free) cell-v (step-made .named)
       (λ f. sym (step-made .filled f) ∙ list-filled kd (arrangementIn m t (zoneOf m (x .to))) (placeOf m (x .to)) (x .robot) (rw (kept ct .as-last) at f))
 
@@ -149,8 +149,8 @@ module _ (m : Map) (g : Accepted m) (k : ℕ) (few : k ≤ 64) (q : State) (hq :
       q′ = movedAll q (movesOf m q (x .robot) (x .from) (x .to) behind list)
 
       case : (y : ℕ) → y < zoneCount m → Dec (y ≡ zoneOf m (x .from)) → Dec (y ≡ zoneOf m (x .to)) → Reachable (kindOf m y) (arrangementIn m q′ y) (arrangementIn m (moved t x) y)
-      case y hy (yes e) w = rw (e, step-made .gone, arrangement-leave m g t x (zoneOf m (x .from)) (placeOf m (x .from)) (omega (arith, i .robots, g .small, crossed .0)) (pu .0) (pu .1) (sym (pu .2)) (λ e. n (sym e))) same-u
-      case y hy (no d) (yes e) = rw (e, step-made .come, arrangement-enter m g t x (zoneOf m (x .to)) (placeOf m (x .to)) (omega (arith, i .robots, g .small, crossed .1)) (pv .0) (pv .1) (sym (pv .2)) n (l .robot)) same-v
+      case y hy (yes e) w = rw (e, step-made .gone, arrangement-leave m g t x (zoneOf m (x .from)) (placeOf m (x .from)) (omega (arith, i .robots, g .small, crossed .0)) (pu .zone) (pu .place) (sym (pu .vertex)) (λ e. n (sym e))) same-u
+      case y hy (no d) (yes e) = rw (e, step-made .come, arrangement-enter m g t x (zoneOf m (x .to)) (placeOf m (x .to)) (omega (arith, i .robots, g .small, crossed .1)) (pv .zone) (pv .place) (sym (pv .vertex)) n (l .robot)) same-v
       case y hy (no d) (no e) = rw (step-made .away y hy d e, arrangement-away m g t x y hy (λ p. d (sym p)) (λ p. e (sym p))) (tuple-at m q t qt y hy)
 
 -- ---- every abstract plan can be walked

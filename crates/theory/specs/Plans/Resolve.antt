@@ -21,12 +21,13 @@ use Rattle.theory.specs.Maps.Layout.{Accepted}
 use Rattle.theory.specs.Maps.Placing.{Placed}
 use Rattle.theory.specs.Maps.Moves.{Legals, moved-append, legals-append, drawn-append}
 use Rattle.theory.specs.Maps.Consistent.{consistent-all}
-use Rattle.theory.specs.Maps.Tracks.{Tracks, tracks-all, same-vertices, arrangements-same, same-robots, same-arrangements}
+use Rattle.theory.specs.Maps.Tracks.{Tracks, tracks-all, same-vertices, same-robots}
 use Rattle.theory.specs.Maps.Standing.{standing-tracks}
 use Rattle.theory.specs.Plans.Walk.{Walk, Walked, walked, Reads, steps-read, walkRan, walk-read}
 use Rattle.theory.specs.Plans.Endings.{Ended, brought, goals-pass}
 use Rattle.theory.specs.Plans.Tuple.{tuple-refl, same-tuple, abstract-to, list-abstract}
 use Rattle.theory.specs.Plans.Crossing.{abstract-walk}
+use Rattle.theory.specs.Maps.Inside.{same-arrangements, arrangements-same}
 
 -- ---- the count
 
@@ -94,7 +95,7 @@ module _ (m : Map) (g : Accepted m) (pl : Placing) (pd : Placed (m .size) pl) wh
   arrives {ss} {xs} w q = record {
     legals = legals;
     reached = same-vertices m g k (pd .few) _ (standing (pl .goals)) (tracks-all m g k (pd .few) start-tracks legals) goal-tracks
-        (arrangements-same m g k (pd .few) (movedAll s (xs ++ E)) (standing (pl .goals)) (λ z h. rw (moved-append s xs E) (en .reached z (omega arith) h)));
+        (arrangements-same m g (movedAll s (xs ++ E)) (standing (pl .goals)) (λ z h. rw (moved-append s xs E) (en .reached z (omega arith) h)));
     drawn = drawn-append m s xs E ∙ ap₂ {C = List Step} (λ a b. a ++ b) (wd .drawn) (en .silent) ∙ append-nil ss;
   }
     where
@@ -132,7 +133,7 @@ module _ (m : Map) (g : Accepted m) (pl : Placing) (pd : Placed (m .size) pl) wh
   concrete-abstract {xs} l e =
       let k = length (pl .starts) in
       let t = movedAll (standing (pl .starts)) xs in
-      let same = same-arrangements m g k (pd .few) t (standing (pl .goals)) (same-robots m g k (pd .few) t (standing (pl .goals)) (tracks-all m g k (pd .few) start-tracks l) goal-tracks e) in
+      let same = same-arrangements m g t (standing (pl .goals)) (same-robots m g k (pd .few) t (standing (pl .goals)) (tracks-all m g k (pd .few) start-tracks l) goal-tracks e) in
       abstract-to m (standing (pl .goals)) (list-abstract m g k (pd .few) start-tracks l) (same-tuple m t (standing (pl .goals)) same)
 
   -- ---- plans as bytes

@@ -21,6 +21,10 @@ use Rattle.theory.specs.Basics.Tests.{eq→eqb, and-both, and-left, and-
 use Rattle.theory.specs.Basics.Outcomes.{ok-injective, pass, passed}
 use Rattle.theory.specs.Zones.Crossing.{extraOf, enters}
 
+-- how long the follow list of a step to vertex v is
+abbrev pub extraAt : Map → State → ℕ → ℕ
+extraAt m s v = extraOf (kindOf m (zoneOf m v)) (arrangementIn m s (zoneOf m v))
+
 -- every check of the step passes
 pub record Taken (m : Map) (k : ℕ) (s : State) (r u v behind : ℕ) (list : List ℕ) : Type 0 where
   pub robot : r < k
@@ -30,7 +34,7 @@ pub record Taken (m : Map) (k : ℕ) (s : State) (r u v behind : ℕ) (list : Li
   pub apart : zoneOf m u ≢ zoneOf m v
   pub leaves : T (canLeave (kindOf m (zoneOf m u)) (arrangementIn m s (zoneOf m u)) r (placeOf m u))
   pub room : T (not (full (arrangementIn m s (zoneOf m v))))
-  pub listed : length list ≡ extraOf (kindOf m (zoneOf m v)) (arrangementIn m s (zoneOf m v))
+  pub listed : length list ≡ extraAt m s v
   pub enters : T (canEnter (kindOf m (zoneOf m v)) (arrangementIn m s (zoneOf m v)) r (placeOf m v) behind list)
 
 -- the moves in the zone that is left
@@ -71,40 +75,6 @@ drop-four p o e h =
     one : (a b : ℕ) → o + a + 1 ≡ o + (a + 1)
     one a b = omega arith
 
--- a step that is resolved passes every check
-pub taken-at : (m : Map) (k : ℕ) (p : List ℕ) (i o : ℕ) (s : State) (ran : Ran) → stepAt m k p i o s ≡ ok ran → TakenAt m k p o s ran
-unfolding stepAt
-taken-at m k p i o s ran e =
-    let a = passed _ _ _ _ _ e in
-    let b = passed _ _ _ _ _ (a .1) in
-    let c = passed _ _ _ _ _ (b .1) in
-    let d = passed _ _ _ _ _ (c .1) in
-    let f = passed _ _ _ _ _ (d .1) in
-    let h = passed _ _ _ _ _ (f .1) in
-    let j = passed _ _ _ _ _ (h .1) in
-    let long : o + 4 + extraOf (kindOf m (zoneOf m (getD p (o + 2) 0))) (arrangementIn m s (zoneOf m (getD p (o + 2) 0))) ≤ length p = leb→le _ _ (h .0) in
-    rw (← ok-injective (j .1)) (record {
-      r = getD p o 0;
-      u = getD p (o + 1) 0;
-      v = getD p (o + 2) 0;
-      behind = getD p (o + 3) 0;
-      list = take (extraOf (kindOf m (zoneOf m (getD p (o + 2) 0))) (arrangementIn m s (zoneOf m (getD p (o + 2) 0)))) (drop (o + 4) p);
-      taken = record {
-        robot = ltb→lt _ _ (and-left _ _ (b .0));
-        from = ltb→lt _ _ (and-left _ _ (and-right _ _ (b .0)));
-        to = ltb→lt _ _ (and-right _ _ (and-right _ _ (b .0)));
-        near = and-left _ _ (c .0);
-        apart = λ q. T-not (eqb (zoneOf m (getD p (o + 1) 0)) (zoneOf m (getD p (o + 2) 0))) (and-right _ _ (c .0)) (eq→eqb _ _ q);
-        leaves = d .0;
-        room = f .0;
-        listed = length-take-le _ (drop (o + 4) p) (omega (arith, length-drop (o + 4) p));
-        enters = j .0;
-      };
-      bytes = drop-four p o (extraOf (kindOf m (zoneOf m (getD p (o + 2) 0))) (arrangementIn m s (zoneOf m (getD p (o + 2) 0)))) (leb→le _ _ (h .0));
-      moves = refl;
-      state = refl;
-    })
-
 -- stepAt's body, for the four bytes and what follows them
 stepOn : Map → ℕ → ℕ → ℕ → State → ℕ → ℕ → ℕ → ℕ → ℕ → List ℕ → Outcome Ran
 stepOn m k i o s len r u v behind tail = do
@@ -113,12 +83,12 @@ stepOn m k i o s len r u v behind tail = do
   check (joined m u v && not (eqb (zoneOf m u) (zoneOf m v))) 37 i
   check (canLeave (kindOf m (zoneOf m u)) (arrangementIn m s (zoneOf m u)) r (placeOf m u)) 38 i
   check (not (full (arrangementIn m s (zoneOf m v)))) 39 i
-  check (leb (o + 4 + extraOf (kindOf m (zoneOf m v)) (arrangementIn m s (zoneOf m v))) len) 35 i
-  check (canEnter (kindOf m (zoneOf m v)) (arrangementIn m s (zoneOf m v)) r (placeOf m v) behind (take (extraOf (kindOf m (zoneOf m v)) (arrangementIn m s (zoneOf m v))) tail)) 39 i
+  check (leb (o + 4 + extraAt m s v) len) 35 i
+  check (canEnter (kindOf m (zoneOf m v)) (arrangementIn m s (zoneOf m v)) r (placeOf m v) behind (take (extraAt m s v) tail)) 39 i
   ok (record {
-    state = movedAll s (movesOf m s r u v behind (take (extraOf (kindOf m (zoneOf m v)) (arrangementIn m s (zoneOf m v))) tail));
-    moves = movesOf m s r u v behind (take (extraOf (kindOf m (zoneOf m v)) (arrangementIn m s (zoneOf m v))) tail);
-    next = o + 4 + extraOf (kindOf m (zoneOf m v)) (arrangementIn m s (zoneOf m v));
+    state = movedAll s (movesOf m s r u v behind (take (extraAt m s v) tail));
+    moves = movesOf m s r u v behind (take (extraAt m s v) tail);
+    next = o + 4 + extraAt m s v;
   })
 
 -- stepAt is its body
@@ -130,6 +100,62 @@ step-on m k p i o s = refl
 -- what a step gives
 abbrev pub ranOf : Map → State → ℕ → ℕ → ℕ → ℕ → ℕ → List ℕ → Ran
 ranOf m s o r u v behind list = record { state = movedAll s (movesOf m s r u v behind list); moves = movesOf m s r u v behind list; next = o + 4 + length list }
+
+-- what a step that goes through the body says
+record On (m : Map) (k o : ℕ) (s : State) (len r u v behind : ℕ) (tail : List ℕ) (ran : Ran) : Type 0 where
+  pub long : o + 4 + extraAt m s v ≤ len
+  pub taken : length (take (extraAt m s v) tail) ≡ extraAt m s v → Taken m k s r u v behind (take (extraAt m s v) tail)
+  pub moves : ran .moves ≡ movesOf m s r u v behind (take (extraAt m s v) tail)
+  pub state : ran .state ≡ movedAll s (ran .moves)
+  pub next : ran .next ≡ o + 4 + extraAt m s v
+
+-- it passes every check
+taken-on : (m : Map) (k i o : ℕ) (s : State) (len r u v behind : ℕ) (tail : List ℕ) (ran : Ran) → stepOn m k i o s len r u v behind tail ≡ ok ran → On m k o s len r u v behind tail ran
+unfolding stepOn
+taken-on m k i o s len r u v behind tail ran e =
+    let a = passed _ _ _ _ _ e in
+    let b = passed _ _ _ _ _ (a .1) in
+    let c = passed _ _ _ _ _ (b .1) in
+    let d = passed _ _ _ _ _ (c .1) in
+    let f = passed _ _ _ _ _ (d .1) in
+    let h = passed _ _ _ _ _ (f .1) in
+    let j = passed _ _ _ _ _ (h .1) in
+    let is = ok-injective (j .1) in
+    record {
+      long = leb→le _ _ (h .0);
+      taken = λ l. record {
+        robot = ltb→lt _ _ (and-left _ _ (b .0));
+        from = ltb→lt _ _ (and-left _ _ (and-right _ _ (b .0)));
+        to = ltb→lt _ _ (and-right _ _ (and-right _ _ (b .0)));
+        near = and-left _ _ (c .0);
+        apart = λ q. T-not (eqb (zoneOf m u) (zoneOf m v)) (and-right _ _ (c .0)) (eq→eqb _ _ q);
+        leaves = d .0;
+        room = f .0;
+        listed = l;
+        enters = j .0;
+      };
+      moves = ap (λ (q : Ran). q .moves) (sym is);
+      state = ap (λ (q : Ran). q .state) (sym is) ∙ ap (λ (q : Ran). movedAll s (q .moves)) is;
+      next = ap (λ (q : Ran). q .next) (sym is);
+    }
+
+-- a step that is resolved passes every check
+pub taken-at : (m : Map) (k : ℕ) (p : List ℕ) (i o : ℕ) (s : State) (ran : Ran) → stepAt m k p i o s ≡ ok ran → TakenAt m k p o s ran
+taken-at m k p i o s ran e =
+    let v = getD p (o + 2) 0 in
+    let t = taken-on m k i o s (length p) (getD p o 0) (getD p (o + 1) 0) v (getD p (o + 3) 0) (drop (o + 4) p) ran (sym (step-on m k p i o s) ∙ e) in
+    let l : extraAt m s v ≤ length (drop (o + 4) p) = omega (arith, length-drop (o + 4) p, t .long) in
+    record {
+      r = getD p o 0;
+      u = getD p (o + 1) 0;
+      v = v;
+      behind = getD p (o + 3) 0;
+      list = take (extraAt m s v) (drop (o + 4) p);
+      taken = t .taken (length-take-le (extraAt m s v) (drop (o + 4) p) l);
+      bytes = rw (t .next) (drop-four p o (extraAt m s v) (t .long));
+      moves = t .moves;
+      state = t .state;
+    }
 
 -- a step that passes every check goes through the body
 takes-on : (m : Map) (k i o : ℕ) (s : State) (len r u v behind : ℕ) (list tail : List ℕ) → Taken m k s r u v behind list → o + 4 + length list ≤ len

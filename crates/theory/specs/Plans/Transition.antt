@@ -8,7 +8,7 @@ use lib.Dec.{T}
 use Rattle.spec.specs.Layout.{Map, zoneOf, zoneAt}
 use Rattle.spec.specs.Arrangement.{Move, cell}
 use Rattle.spec.specs.State.{State, robotOn, movedAll, legal, across}
-use Rattle.spec.specs.Terms.{Reachable, SameTuple, IsState, Applicable, vertexAt, sizeOf, arrangementIn, zoneCount, kindOf, placeOf}
+use Rattle.spec.specs.Terms.{Reachable, SameTuple, IsState, Applicable, vertexAt, arrangementIn, zoneCount, kindOf, placeOf, Stands}
 use Rattle.theory.specs.Maps.Layout.{Accepted}
 use Rattle.theory.specs.Maps.Cells.{cell-robot, cell-empty, arrangement-cell}
 use Rattle.theory.specs.Maps.Moves.{Legal, is-legal, legal-is}
@@ -31,8 +31,8 @@ module _ (m : Map) (g : Accepted m) (k : ℕ) (few : k ≤ 64) (s : State) (h : 
       record {
         near = y .near;
         apart = n;
-        leaves = (arrangementIn m t (zoneOf m (x .from)), tuple-at m s t p (zoneOf m (x .from)) (g .placed (x .from) (e .0) .0), on-cell m g t (x .from) (x .robot) (e .0) (y .robot) (y .there));
-        enters = (arrangementIn m t (zoneOf m (x .to)), tuple-at m s t p (zoneOf m (x .to)) (g .placed (x .to) (e .1) .0), off-cell m g t (x .to) (e .1) (y .free));
+        leaves = (arrangementIn m t (zoneOf m (x .from)), tuple-at m s t p (zoneOf m (x .from)) (g .placed (x .from) (e .0) .zone), on-cell m g t (x .from) (x .robot) (e .0) (y .robot) (y .there));
+        enters = (arrangementIn m t (zoneOf m (x .to)), tuple-at m s t p (zoneOf m (x .to)) (g .placed (x .to) (e .1) .zone), off-cell m g t (x .to) (e .1) (y .free));
       }
 
   -- where its zones do, the moves inside them lead to a state that has
@@ -48,10 +48,10 @@ module _ (m : Map) (g : Accepted m) (k : ℕ) (few : k ≤ 64) (s : State) (h : 
       e : (x .from < m .size) × (x .to < m .size) × (x .from ≢ x .to)
       e = g .ends (x .from) (x .to) (a .near)
 
-      pu : (zoneOf m (x .from) < zoneCount m) × (placeOf m (x .from) < sizeOf m (zoneOf m (x .from))) × (vertexAt m (zoneOf m (x .from)) (placeOf m (x .from)) ≡ x .from)
+      pu : Stands m (x .from) (zoneOf m (x .from)) (placeOf m (x .from))
       pu = g .placed (x .from) (e .0)
 
-      pv : (zoneOf m (x .to) < zoneCount m) × (placeOf m (x .to) < sizeOf m (zoneOf m (x .to))) × (vertexAt m (zoneOf m (x .to)) (placeOf m (x .to)) ≡ x .to)
+      pv : Stands m (x .to) (zoneOf m (x .to)) (placeOf m (x .to))
       pv = g .placed (x .to) (e .1)
 
       out : List Move
@@ -64,13 +64,13 @@ module _ (m : Map) (g : Accepted m) (k : ℕ) (few : k ≤ 64) (s : State) (h : 
       first = movedAll s out
 
       acted-out : Acted m g s u out (a .leaves .0)
-      acted-out = act m g k u (pu .0) (a .leaves .1 .1) s (h .consistent) refl
+      acted-out = act m g k u (pu .zone) (a .leaves .1 .1) s (h .consistent) refl
 
       tracked-first : Tracks m k first
       tracked-first = tracks-all m g k few h (acted-out .legals)
 
       acted-in : Acted m g first v into (a .enters .0)
-      acted-in = act m g k v (pv .0) (a .enters .1 .1) first (tracked-first .consistent) (sym (acted-out .away v (pv .0) (λ q. a .apart (sym q))))
+      acted-in = act m g k v (pv .zone) (a .enters .1 .1) first (tracked-first .consistent) (sym (acted-out .away v (pv .zone) (λ q. a .apart (sym q))))
 
       second : State
       second = movedAll first into
@@ -79,7 +79,7 @@ module _ (m : Map) (g : Accepted m) (k : ℕ) (few : k ≤ 64) (s : State) (h : 
       tracked = tracks-all m g k few tracked-first (acted-in .legals)
 
       at-u : arrangementIn m second u ≡ a .leaves .0
-      at-u = acted-in .away u (pu .0) (a .apart) ∙ acted-out .here
+      at-u = acted-in .away u (pu .zone) (a .apart) ∙ acted-out .here
 
       same : SameTuple m s second
       same = tuple m s second (λ z hz. case z hz (ℕ-discrete z u) (ℕ-discrete z v))
@@ -92,7 +92,7 @@ module _ (m : Map) (g : Accepted m) (k : ℕ) (few : k ≤ 64) (s : State) (h : 
       crossing : Legal m second x
       crossing =
           let c = cell-robot (robotOn second (vertexAt m u (placeOf m (x .from)))) (x .robot)
-          (sym (arrangement-cell second (zoneAt m u) (placeOf m (x .from)) (pu .1)) ∙ ap (λ b. cell b (placeOf m (x .from))) at-u ∙ a .leaves .2) in
+          (sym (arrangement-cell second (zoneAt m u) (placeOf m (x .from)) (pu .place)) ∙ ap (λ b. cell b (placeOf m (x .from))) at-u ∙ a .leaves .2) in
           let d = cell-empty (robotOn second (vertexAt m v (placeOf m (x .to))))
-          (sym (arrangement-cell second (zoneAt m v) (placeOf m (x .to)) (pv .1)) ∙ ap (λ b. cell b (placeOf m (x .to))) (acted-in .here) ∙ a .enters .2) in
-          record { near = a .near; robot = λ q. c .1 (c .0 ∙ q); there = rw (pu .2) at (c .0); free = rw (pv .2) at d }
+          (sym (arrangement-cell second (zoneAt m v) (placeOf m (x .to)) (pv .place)) ∙ ap (λ b. cell b (placeOf m (x .to))) (acted-in .here) ∙ a .enters .2) in
+          record { near = a .near; robot = λ q. c .1 (c .0 ∙ q); there = rw (pu .vertex) at (c .0); free = rw (pv .vertex) at d }

@@ -9,11 +9,11 @@ use Rattle.spec.specs.Outcome.{indexOf}
 use Rattle.spec.specs.Layout.{Map, zoneOf, zoneAt}
 use Rattle.spec.specs.Arrangement.{Move, mv}
 use Rattle.spec.specs.State.{State, moved, movedAll, Step, drawnSteps}
-use Rattle.spec.specs.Terms.{done, _then_, Reachable, SameTuple, Abstract, ends, makes, vertexAt, sizeOf, arrangementIn, zoneCount, kindOf, placeOf}
+use Rattle.spec.specs.Terms.{done, _then_, Reachable, SameTuple, Abstract, ends, makes, vertexAt, arrangementIn, zoneCount, kindOf, placeOf, Stands}
 use Rattle.theory.specs.Maps.Layout.{Accepted}
-use Rattle.theory.specs.Maps.Moves.{Legal, legal-is, Legals, stay, go}
+use Rattle.theory.specs.Maps.Moves.{Legal, legal-is, Legals, stay, go, silent-move, crossing-move}
 use Rattle.theory.specs.Maps.Consistent.{Consistent}
-use Rattle.theory.specs.Maps.Inside.{arrangement-within, arrangement-away, legal-inside, silent-move, crossing-move}
+use Rattle.theory.specs.Maps.Inside.{arrangement-within, arrangement-away, legal-inside}
 use Rattle.theory.specs.Zones.Moves.{reach-refl, reach-trans}
 use Rattle.theory.specs.Maps.Tracks.{Tracks, tracks-moved}
 
@@ -65,10 +65,10 @@ module _ (m : Map) (g : Accepted m) (k : ℕ) (few : k ≤ 64) where
       z : ℕ
       z = zoneOf m (x .from)
 
-      u : (zoneOf m (x .from) < zoneCount m) × (placeOf m (x .from) < sizeOf m (zoneOf m (x .from))) × (vertexAt m (zoneOf m (x .from)) (placeOf m (x .from)) ≡ x .from)
+      u : Stands m (x .from) (zoneOf m (x .from)) (placeOf m (x .from))
       u = g .placed (x .from) (d .0)
 
-      v : (zoneOf m (x .from) < zoneCount m) × (indexOf (x .to) (zoneAt m (zoneOf m (x .from)) .vertices) < sizeOf m (zoneOf m (x .from))) × (vertexAt m (zoneOf m (x .from)) (indexOf (x .to) (zoneAt m (zoneOf m (x .from)) .vertices)) ≡ x .to)
+      v : Stands m (x .to) (zoneOf m (x .from)) (indexOf (x .to) (zoneAt m (zoneOf m (x .from)) .vertices))
       v = rw (← e) at (g .placed (x .to) (d .1))
 
       i : ℕ
@@ -78,13 +78,13 @@ module _ (m : Map) (g : Accepted m) (k : ℕ) (few : k ≤ 64) where
       j = indexOf (x .to) (zoneAt m (zoneOf m (x .from)) .vertices)
 
       same : mv (x .robot) (vertexAt m z i) (vertexAt m z j) ≡ x
-      same = λ q. mv (x .robot) (u .2 q) (v .2 q)
+      same = λ q. mv (x .robot) (u .vertex q) (v .vertex q)
 
       one : Reachable (kindOf m z) (arrangementIn m s z) (arrangementIn m (moved s x) z)
       one =
           let l′ : Legal m s (mv (x .robot) (vertexAt m z i) (vertexAt m z j)) = rw same l in
-          let w = legal-inside m g k s h z (u .0) (x .robot) i j (u .1) (v .1) l′ in
-          let e′ : arrangementIn m (moved s x) z ≡ set (set (arrangementIn m s z) i 0) j (suc (x .robot)) = ap (λ y. arrangementIn m (moved s y) z) (sym same) ∙ arrangement-within m g s z (x .robot) i j (h .rooms) (u .0) (u .1) (v .1) (l .robot) in
+          let w = legal-inside m g k s h z (u .zone) (x .robot) i j (u .place) (v .place) l′ in
+          let e′ : arrangementIn m (moved s x) z ≡ set (set (arrangementIn m s z) i 0) j (suc (x .robot)) = ap (λ y. arrangementIn m (moved s y) z) (sym same) ∙ arrangement-within m g s z (x .robot) i j (h .rooms) (u .zone) (u .place) (v .place) (l .robot) in
           rw e′ (mv (x .robot) i j ∷ [], _then_ w done)
 
       case : (y : ℕ) → y < zoneCount m → Dec (y ≡ zoneOf m (x .from)) → Reachable (kindOf m y) (arrangementIn m s y) (arrangementIn m (moved s x) y)
@@ -97,5 +97,5 @@ module _ (m : Map) (g : Accepted m) (k : ℕ) (few : k ≤ 64) where
   list-abstract h (go {s} {x} {xs} l r) = case (ℕ-discrete (zoneOf m (x .from)) (zoneOf m (x .to))) (list-abstract (tracks-moved m g k few s x h l) r)
     where
       case : Dec (zoneOf m (x .from) ≡ zoneOf m (x .to)) → Abstract m (moved s x) (drawnSteps m (moved s x) xs) (movedAll (moved s x) xs) → Abstract m s (drawnSteps m s (x ∷ xs)) (movedAll s (x ∷ xs))
-      case (yes e) ih = rw (silent-move m g s x xs e) (unfold movedAll in abstract-from m s (moved s x) (inside-tuple s x (h .consistent) l e) ih)
-      case (no e) ih = rw (crossing-move m g s x xs e) (unfold movedAll in makes s x record { robots = h .consistent .rooms; vertices = h .places } (tuple-refl m s) (legal-is m s x l) e ih)
+      case (yes e) ih = rw (silent-move m s x xs e) (unfold movedAll in abstract-from m s (moved s x) (inside-tuple s x (h .consistent) l e) ih)
+      case (no e) ih = rw (crossing-move m s x xs e) (unfold movedAll in makes s x record { robots = h .consistent .rooms; vertices = h .places } (tuple-refl m s) (legal-is m s x l) e ih)

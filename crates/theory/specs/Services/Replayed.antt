@@ -96,23 +96,24 @@ replay-sound a b c w h e =
     let k = checked-sound (i .0 .graph) (s .accepted) (i .0 .placing) (s .placed) (p .0) (m .0) (written-bytes 40 4 128 c (p .0) h (p .1)) (m .1) in
     rw (← ok-injective (m .2)) (record { instance = i .1; reaches = (legal-all (k .legals), k .reached); file = f .0 ∙ ap (fileOf 4) (sym (k .payload)); size = f .3 })
 
+-- a list's file that fits is read back
+pub read-moves : (xs : List Move) → Within 128 (moveFile xs) → payloadOf 40 4 128 (moveFile xs) ≡ ok (movesPayload xs)
+read-moves xs h =
+    let one : 1 ≤ length (movesPayload xs) = omega (arith, moves-length xs) in
+    read-file 40 4 128 (movesPayload xs) one (payload-within 4 128 (movesPayload xs) one h) (omega arith)
+
 -- and every legal list to the goals that fits is accepted
 pub replay-complete : (a b : List ℕ) (it : Instance) (xs : List Move) → instanceOf a b ≡ ok it → Reaches it xs → Within 128 (moveFile xs)
     → replay a b (moveFile xs) ≡ ok (record { it = it; moves = xs })
 unfolding replay
 replay-complete a b it xs i r h =
     let s = instance-accepted a b it i in
-    let one : 1 ≤ length (movesPayload xs) = omega (arith, moves-length xs) in
-    let l : length (movesPayload xs) ≤ 504 * 128 = payload-within 4 128 (movesPayload xs) one h in
+    let l : length (movesPayload xs) ≤ 504 * 128 = payload-within 4 128 (movesPayload xs) (omega (arith, moves-length xs)) h in
     let k = checked-complete (it .graph) (s .accepted) (it .placing) (s .placed) xs (start-tracks (it .graph) (s .accepted) (it .placing) (s .placed) .consistent)
     (are-legal (it .graph) (start it) xs (r .0)) (r .1) (omega (arith, moves-length xs)) in
-    bind _ _ _ i ∙ bind _ _ _ (read-file 40 4 128 (movesPayload xs) one l (omega arith)) ∙ bind _ _ _ k
+    bind _ _ _ i ∙ bind _ _ _ (read-moves xs h) ∙ bind _ _ _ k
 
 -- one file is one list
 pub oneList : OneList
 unfolding OneList
-oneList xs ys h k e =
-    let some : (zs : List Move) → 1 ≤ length (movesPayload zs) = λ zs. omega (arith, moves-length zs) in
-    let read : (zs : List Move) → Within 128 (moveFile zs) → payloadOf 40 4 128 (moveFile zs) ≡ ok (movesPayload zs)
-    = λ zs w. read-file 40 4 128 (movesPayload zs) (some zs) (payload-within 4 128 (movesPayload zs) (some zs) w) (omega arith) in
-    payload-moves xs ys (ok-injective (sym (read xs h) ∙ ap (payloadOf 40 4 128) e ∙ read ys k))
+oneList xs ys h k e = payload-moves xs ys (ok-injective (sym (read-moves xs h) ∙ ap (payloadOf 40 4 128) e ∙ read-moves ys k))

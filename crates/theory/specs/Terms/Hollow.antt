@@ -1,125 +1,40 @@
 -- The hollow controllers of document 01: each is defined, and shown not to meet the term that shuts it out.
 use mathlib.Core.Path.{_≡_, refl, sym, ap, _∙_}
 use mathlib.Core.Logic.{_≢_}
-use mathlib.Core.Bool.{Bool, true, false}
+use mathlib.Core.Bool.{true, false}
 use mathlib.Core.List.{List, [], _∷_, _++_}
-use Prim.Native.Nat.{ℕ, zero, suc, _+_, _-_, _≤_, _<_}
+use Prim.Native.Nat.{ℕ, _+_, _≤_, _%_}
 use native.Mathlib.Omega.{arith}
-use lib.ListN.{length, getD, take, replicate}
-use lib.Seq.{take-at}
-use lib.Dec.{T, eqb, ltb, ltb→lt, lit<}
-use Rattle.spec.specs.Outcome.{ok, _>>=_, _>>_, check, _&&_, _||_, all, u16}
-use Rattle.spec.specs.Wire.{fileOf}
+use lib.ListN.{length, getD, take}
+use lib.Dec.{eqb, ltb, lit<}
+use Rattle.spec.specs.Outcome.{ok, refuse, _>>=_, _>>_, check, _&&_, _||_, all, u16}
+use Rattle.spec.specs.Wire.{fileOf, payloadOf}
 use Rattle.spec.specs.Layout.{Map, zoneOf}
 use Rattle.spec.specs.Arrangement.{Move, mv}
-use Rattle.spec.specs.State.{standing, movedAll, drawnSteps, planPayload, moveBytes, movesPayload}
-use Rattle.spec.specs.Services.{Answer, Instance, instanceOf, fits, answerOf, planMoves, judging, drawing}
-use Rattle.spec.specs.Terms.{Judging, Writing, Bytes, Within, writes, moveFile, planFile, start, goal, OneList, Refuses, Resolves, RoundTrip, Sound, Complete}
-use Rattle.theory.specs.Basics.Tests.{of-true}
+use Rattle.spec.specs.State.{standing, movedAll, legalAll, drawnSteps, planPayload, moveBytes, movesPayload}
+use Rattle.spec.specs.Services.{Answer, instanceOf, fits, answerOf, planMoves, judging, resolving}
+use Rattle.spec.specs.Terms.{Judging, Writing, Bytes, Within, writes, moveFile, planFile, start, goal, Reaches, Refuses, Resolves, Drawn, RoundTrip, Sound, Complete}
 use Rattle.theory.specs.Basics.Outcomes.{ok-injective}
+use Rattle.theory.specs.Plans.MoveList.{moves-length}
 use Rattle.theory.specs.Services.Answers.{refusal}
-use Rattle.theory.specs.Services.Replayed.{oneList}
+use Rattle.theory.specs.Services.Replayed.{read-moves}
 use Rattle.theory.specs.Terms.Services.{complete}
-
--- ---- two yards
-
--- bytes that pass the test are bytes
-all-bytes : (c : List ℕ) → T (all (λ x. ltb x 256) c) → Bytes c
-unfolding all
-all-bytes [] t i = lit< tt
-all-bytes (x ∷ c) t i = case (ltb x 256) refl t (all-bytes c) i
-  where
-    case : (b : Bool) → ltb x 256 ≡ b → T (elim b [ true ↦ all (λ x. ltb x 256) c | false ↦ false ]) → (T (all (λ x. ltb x 256) c) → Bytes c) → (i : ℕ) → getD (x ∷ c) i 0 < 256
-    case true e t ih zero = ltb→lt x 256 (of-true e)
-    case true e t ih (suc i) = ih t i
-    case false e t ih i = absurd t
-
--- Yard A: stack 0, 1, 2; hall 3, 4; robot 0 from 1 to 4, robot 1 from 2 to 3
-mapA : List ℕ
-mapA = fileOf 1 (5 ∷ 2 ∷ 1 ∷ 3 ∷ 0 ∷ 1 ∷ 2 ∷ 2 ∷ 2 ∷ 3 ∷ 4 ∷ 0 ∷ 4 ∷ 0 ∷ 1 ∷ 0 ∷ 3 ∷ 1 ∷ 2 ∷ 3 ∷ 4 ∷ [])
-
--- its placing
-placingA : List ℕ
-placingA = fileOf 2 (2 ∷ 1 ∷ 4 ∷ 2 ∷ 3 ∷ [])
-
--- its plan: both robots cross
-planA : List ℕ
-planA = fileOf 3 (0 ∷ 2 ∷ 0 ∷ 0 ∷ 3 ∷ 255 ∷ 1 ∷ 0 ∷ 3 ∷ 255 ∷ [])
-
--- the plan is bytes
-bytesA : Bytes planA
-unfolding planA fileOf all
-bytesA = all-bytes planA tt
-
--- and is cleared
-clearedA : judging mapA placingA planA .number ≡ 0
-unfolding judging mapA placingA planA fileOf _>>=_ _>>_ check _&&_ _||_
-clearedA = refl
-
--- a plan with no steps
-noSteps : List ℕ
-noSteps = fileOf 3 (0 ∷ 0 ∷ [])
-
--- it is bytes
-bytesNone : Bytes noSteps
-unfolding noSteps fileOf all
-bytesNone = all-bytes noSteps tt
-
--- Yard B: stack 0; hall 1; robot 0 from 0 to 1
-mapB : List ℕ
-mapB = fileOf 1 (2 ∷ 2 ∷ 1 ∷ 1 ∷ 0 ∷ 2 ∷ 1 ∷ 1 ∷ 0 ∷ 1 ∷ 0 ∷ 1 ∷ [])
-
--- its placing
-placingB : List ℕ
-placingB = fileOf 2 (1 ∷ 0 ∷ 1 ∷ [])
-
--- its plan: the robot goes there, back and there
-planB : List ℕ
-planB = fileOf 3 (0 ∷ 3 ∷ 0 ∷ 0 ∷ 1 ∷ 255 ∷ 0 ∷ 1 ∷ 0 ∷ 255 ∷ 0 ∷ 0 ∷ 1 ∷ 255 ∷ [])
-
--- the plan is bytes
-bytesB : Bytes planB
-unfolding planB fileOf all
-bytesB = all-bytes planB tt
-
--- its map and placing as they are read
-itB : Instance
-itB = record {
-  graph = record {
-    size = 2;
-    zones = record { kind = 1; vertices = 0 ∷ [] } ∷ record { kind = 2; vertices = 1 ∷ [] } ∷ [];
-    edges = record { a = 0; b = 1 } ∷ [];
-  };
-  placing = record { starts = 0 ∷ []; goals = 1 ∷ [] };
-}
-
--- they are read so
-readB : instanceOf mapB placingB ≡ ok itB
-unfolding instanceOf mapB placingB fileOf itB _>>=_ _>>_ check _&&_ _||_
-readB = refl
-
--- it is the only instance that these files give
-onlyB : (it : Instance) → instanceOf mapB placingB ≡ ok it → itB ≡ it
-onlyB it e = ok-injective (sym readB ∙ e)
-
--- two answers that are the same file are the same list
-same-list : (room : ℕ) (xs ys : List Move) → Within 128 (moveFile xs) → Within 128 (moveFile ys) → writes room (moveFile xs) ≡ writes room (moveFile ys) → xs ≡ ys
-unfolding OneList
-same-list room xs ys h k e = oneList xs ys h k (file xs ∙ ap (λ (x : Answer). take (x .value) (x .buffer)) e ∙ sym (file ys))
-  where
-    file : (zs : List Move) → moveFile zs ≡ take (length (moveFile zs)) (moveFile zs ++ replicate (room - length (moveFile zs)) 0)
-    file zs = sym (take-at (moveFile zs) (replicate (room - length (moveFile zs)) 0) (length (moveFile zs)) refl)
+use Rattle.theory.specs.Terms.Yards.{all-bytes, mapA, placingA, planA, bytesA, clearedA, noSteps, bytesNone, mapB, placingB, planB, bytesB, stepB, bytesStep, itB, onlyB, same-list}
 
 -- ---- "turns down every plan": demand 3, second half
 
--- every plan is refused
-abbrev pub turnsDown : ℕ → ℕ → Judging
-turnsDown n place a b c = refusal 0 n place
+-- no plan is cleared
+abbrev pub turnsDown : Judging
+turnsDown a b c = refusal 0 50 0
 
--- Yard A's plan is drawn from a legal list to the goals, so it has to be cleared
-pub turnsDown-out : (n place : ℕ) → n ≢ 0 → Complete (turnsDown n place) → ⊥
+-- Yard A's plan is drawn from a legal list to the goals, so whoever turns it down is out
+pub turned-down : (judge : Judging) → judge mapA placingA planA .number ≢ 0 → Complete judge → ⊥
 unfolding Complete
-turnsDown-out n place h t = h (t mapA placingA planA bytesA .1 (complete mapA placingA planA bytesA .0 clearedA))
+turned-down judge n t = n (t mapA placingA planA bytesA .1 (complete mapA placingA planA bytesA .0 clearedA))
+
+-- so is this one
+pub turnsDown-out : Complete turnsDown → ⊥
+turnsDown-out = turned-down turnsDown (λ e. omega arith)
 
 -- ---- "clears all with an empty list": demand 3, goals
 
@@ -127,13 +42,14 @@ turnsDown-out n place h t = h (t mapA placingA planA bytesA .1 (complete mapA pl
 abbrev pub emptyList : Writing
 emptyList a b c room = writes room (moveFile [])
 
--- in Yard B the empty list draws the plan with no steps and is legal, but does not end on the goal
-pub emptyList-out : Sound emptyList → ⊥
+-- the empty list is legal, but in Yard B does not end on the goal: whoever answers with it there is out
+pub answered-empty : (resolve : Writing) (c : List ℕ) → Bytes c → resolve mapB placingB c 512 ≡ writes 512 (moveFile []) → Sound resolve → ⊥
 unfolding Sound
-emptyList-out s =
-    let w = s mapB placingB noSteps 512 bytesNone refl in
-    let e = same-list 512 [] (w .2) small (w .6) (w .7) in
-    let r : movedAll (start itB) [] .vertices ≡ goal itB .vertices = rw (onlyB (w .0) (w .1), e) (w .3 .1) in
+answered-empty resolve c h a s =
+    let w = s mapB placingB c 512 h (ap (λ (x : Answer). x .number) a) in
+    let e = same-list 512 [] (w .2) small (w .6) (sym a ∙ w .7) in
+    let r : movedAll (start itB) [] .vertices ≡ goal itB .vertices
+    = ap (λ it. movedAll (start it) [] .vertices) (onlyB (w .0) (w .1)) ∙ ap (λ xs. movedAll (start (w .0)) xs .vertices) e ∙ w .3 .1 ∙ ap (λ it. goal it .vertices) (sym (onlyB (w .0) (w .1))) in
     off r
   where
     small : Within 128 (moveFile [])
@@ -142,20 +58,33 @@ emptyList-out s =
     off : movedAll (start itB) [] .vertices ≡ goal itB .vertices → ⊥
     off r = unfold movedAll standing itB in absurd (let z : _≡_ {A = ℕ} 0 1 = ap (λ l. getD l 0 0) r in omega arith)
 
+-- also for the plan with no steps, whose crossings are those of the empty list
+pub emptyList-out : Sound emptyList → ⊥
+emptyList-out = answered-empty emptyList noSteps bytesNone refl
+
 -- ---- "returns 0 and writes nothing": demand 2
 
--- every plan is answered with 0 and no bytes
-abbrev pub writesNothing : Writing
-writesNothing a b c room = writes room []
+-- plans are refused as they should be, and the others answered with 0 and no bytes
+unfoldable pub writesNothing : Writing
+writesNothing a b c room = elim (planMoves a b c) [ ok ms ↦ writes room [] | refuse n place ↦ refusal room n place ]
 
--- two plans can't both be drawn from what was written for either, whatever draws
+-- in Yard B two plans are cleared, and can't both be drawn from no bytes, whatever draws
 pub writesNothing-out : (draw : Writing) → RoundTrip writesNothing draw → ⊥
 unfolding RoundTrip
 writesNothing-out draw t =
-    let one = t [] [] [] 0 1 (λ i. lit< tt) refl (omega arith) in
-    let two = t [] [] (0 ∷ []) 0 1 (all-bytes (0 ∷ []) (unfold all in tt)) refl (omega arith) in
-    let z : _≡_ {A = ℕ} 0 1 = ap (λ (x : Answer). x .value) (sym one ∙ two) in
-    omega arith
+    let one = t mapB placingB stepB 512 512 bytesStep (ap (λ (x : Answer). x .number) first) (unfold stepB fileOf in lit< tt) in
+    let two = t mapB placingB planB 512 512 bytesB (ap (λ (x : Answer). x .number) second) (unfold planB fileOf in lit< tt) in
+    let same : writes 512 stepB ≡ writes 512 planB = sym one ∙ ap (λ (x : Answer). draw mapB placingB (take (x .value) (x .buffer)) 512) (first ∙ sym second) ∙ two in
+    off (ap (λ (x : Answer). getD (x .buffer) 7 0) same)
+  where
+    first : writesNothing mapB placingB stepB 512 ≡ writes 512 []
+    first = unfold writesNothing mapB placingB stepB fileOf planMoves _>>=_ _>>_ check _&&_ _||_ in refl
+
+    second : writesNothing mapB placingB planB 512 ≡ writes 512 []
+    second = unfold writesNothing mapB placingB planB fileOf planMoves _>>=_ _>>_ check _&&_ _||_ in refl
+
+    off : getD (writes 512 stepB .buffer) 7 0 ≡ getD (writes 512 planB .buffer) 7 0 → ⊥
+    off e = let z : _≡_ {A = ℕ} 1 3 = unfold stepB planB fileOf in e in omega arith
 
 -- ---- "works out step one, skips later crossings": demand 3, crossings
 
@@ -173,7 +102,12 @@ stepOne m (x ∷ xs) = elim (eqb (zoneOf m (x .from)) (zoneOf m (x .to))) [ true
 unfoldable pub skipsLater : Writing
 skipsLater a b c room = answerOf room (instanceOf a b >>= λ it. planMoves a b c >>= λ ms. fits 4 128 room (movesPayload (stepOne (it .graph) ms)))
 
--- in Yard B the first of three steps reaches the goal, but the plan drawn from it has one step
+-- in Yard B that is a legal list to the goal
+pub skipsLater-reaches : Reaches itB (mv 0 0 1 ∷ [])
+unfolding itB standing movedAll legalAll _&&_
+skipsLater-reaches = (tt, refl)
+
+-- but the plan drawn from it has one step
 pub skipsLater-out : Sound skipsLater → ⊥
 unfolding Sound
 skipsLater-out s =
@@ -197,19 +131,39 @@ skipsLater-out s =
 unfoldable pub invented : Writing
 invented a b c room = answerOf room (planMoves a b c >>= λ ms. fits 4 128 room (u16 (length ms + 1) ++ moveBytes ms))
 
--- drawing from it is refused: 45
-pub invented-out : RoundTrip invented drawing → ⊥
-unfolding RoundTrip
-invented-out t =
-    let e = t mapB placingB planB 512 512 bytesB zero-number (unfold planB fileOf in lit< tt) in
-    let z : _≡_ {A = ℕ} 45 0 = sym refused ∙ ap (λ (x : Answer). x .number) e in
+-- its payload for Yard B: four moves are announced and three are there
+inventedB : List ℕ
+inventedB = 0 ∷ 4 ∷ 0 ∷ 0 ∷ 1 ∷ 0 ∷ 1 ∷ 0 ∷ 0 ∷ 0 ∷ 1 ∷ []
+
+-- the count in a list's payload is the number of its moves, whatever follows
+count-true : (xs : List Move) → movesPayload xs ≡ inventedB → ⊥
+unfolding movesPayload u16 inventedB
+count-true xs e =
+    let n : length xs ≡ 3 = omega (arith, sym (moves-length xs) ∙ ap length e) in
+    let z : length xs % 256 ≡ 4 = ap (λ l. getD l 1 0) e in
     omega arith
+
+-- what draws legal lists alone can't draw from it
+pub invented-out : (draw : Writing) → Drawn draw → RoundTrip invented draw → ⊥
+unfolding RoundTrip Drawn
+invented-out draw d t =
+    let e = t mapB placingB planB 512 512 bytesB zero-number (unfold planB fileOf in lit< tt) in
+    let f : draw mapB placingB (fileOf 4 inventedB) 512 ≡ writes 512 planB = ap (λ l. draw mapB placingB l 512) (sym file) ∙ e in
+    let w = d mapB placingB (fileOf 4 inventedB) 512 bytes (ap (λ (x : Answer). x .number) f) in
+    let r = read-moves (w .2) (rw (w .4) at (w .5)) in
+    count-true (w .2) (ok-injective (sym r ∙ ap (payloadOf 40 4 128) (sym (w .4)) ∙ read))
   where
     zero-number : invented mapB placingB planB 512 .number ≡ 0
     zero-number = unfold invented mapB placingB planB fileOf planMoves fits answerOf u16 moveBytes _>>=_ _>>_ check _&&_ _||_ in refl
 
-    refused : drawing mapB placingB (take (invented mapB placingB planB 512 .value) (invented mapB placingB planB 512 .buffer)) 512 .number ≡ 45
-    refused = unfold invented drawing mapB placingB planB fileOf planMoves fits answerOf u16 moveBytes _>>=_ _>>_ check _&&_ _||_ in refl
+    file : take (invented mapB placingB planB 512 .value) (invented mapB placingB planB 512 .buffer) ≡ fileOf 4 inventedB
+    file = unfold invented inventedB mapB placingB planB fileOf planMoves fits answerOf u16 moveBytes _>>=_ _>>_ check _&&_ _||_ in refl
+
+    bytes : Bytes (fileOf 4 inventedB)
+    bytes = all-bytes (fileOf 4 inventedB) (unfold fileOf inventedB all in tt)
+
+    read : payloadOf 40 4 128 (fileOf 4 inventedB) ≡ ok inventedB
+    read = unfold inventedB fileOf payloadOf _>>=_ _>>_ check _&&_ _||_ in refl
 
 -- ---- "says 60 or 61 before working anything out": demand 1, by the table
 
@@ -217,16 +171,28 @@ invented-out t =
 abbrev pub early : ℕ → Writing
 early n a b c room = refusal room n 0
 
--- files of length 0 are 11 before they are 60 or 61
-pub early-out : (n : ℕ) → 60 ≤ n → Refuses judging (early n) → ⊥
+-- a short buffer is 60 whatever the files are
+unfoldable pub shortFirst : Writing
+shortFirst a b c room = elim (ltb room 512) [ true ↦ refusal room 60 0 | false ↦ resolving a b c room ]
+
+-- files of length 0 are 11: whoever says 60 or 61 of them is out
+pub said-early : (resolve : Writing) → 60 ≤ resolve [] [] [] 0 .number → Refuses judging resolve → ⊥
 unfolding Refuses
-early-out n h t =
+said-early resolve h t =
     let e = t [] [] [] 0 (λ z. let y : _≡_ {A = ℕ} 11 0 = sym eleven ∙ z in omega arith) .0 in
-    let z : n ≡ 11 = e ∙ eleven in
+    let z : resolve [] [] [] 0 .number ≡ 11 = e ∙ eleven in
     omega arith
   where
     eleven : judging [] [] [] .number ≡ 11
     eleven = unfold judging _>>=_ _>>_ check _&&_ in refl
+
+-- so is this one
+pub early-out : (n : ℕ) → 60 ≤ n → Refuses judging (early n) → ⊥
+early-out n h = said-early (early n) h
+
+-- and this one
+pub shortFirst-out : Refuses judging shortFirst → ⊥
+shortFirst-out = said-early shortFirst (unfold shortFirst in lit< tt)
 
 -- nor does Yard B's list need more than the 512 bytes that are there
 pub early-short : (n : ℕ) → 60 ≤ n → Resolves judging (early n) → ⊥

@@ -8,10 +8,11 @@ use lib.ListN.{length, take, replicate}
 use lib.Seq.{take-at}
 use lib.Dec.{T}
 use Rattle.spec.specs.Outcome.{Outcome, ok, refuse, _>>=_, member, u16}
+use Rattle.spec.specs.Wire.{fileOf}
 use Rattle.spec.specs.Arrangement.{Move}
 use Rattle.spec.specs.State.{drawnSteps, movesPayload, roundsPayload}
-use Rattle.spec.specs.Services.{Answer, fits, answerOf, planMoves, judging, resolving, drawing, rounds}
-use Rattle.spec.specs.Terms.{start, planNumbers, listNumbers, answerNumbers, moveFile, planFile, writes, Within, controller, Zeroed, Listed, Refuses, Resolves, Cleared, Draws, Drawn, OneList, OnePlan, RoundTrip, Times, Timed, Sound, Complete, Terms, Ryan}
+use Rattle.spec.specs.Services.{Instance, Answer, fits, answerOf, planMoves, judging, resolving, drawing, rounds}
+use Rattle.spec.specs.Terms.{Writing, Gives, Takes, start, planNumbers, listNumbers, answerNumbers, moveFile, planFile, writes, Within, controller, Zeroed, Listed, Refuses, Resolves, Cleared, Draws, Drawn, OneList, OnePlan, RoundTrip, Times, Timed, Sound, Complete, Terms, Ryan}
 use Rattle.theory.specs.Basics.Outcomes.{ok-injective, bound}
 use Rattle.theory.specs.Maps.Moves.{legal-all}
 use Rattle.theory.specs.Plans.MoveList.{moves-length}
@@ -122,21 +123,44 @@ cleared a b c h = (
   λ w. let v = abstract-cleared a b c (w .0) (w .2) (w .1) (w .3) (w .4) (w .5) in judges a b c (v .0) (v .1),
 )
 
--- drawing answers a legal list to the goals with its plan
+-- a service that checks the list and then writes a file of it
+module _ (kind limit : ℕ) (payload : Replay → List ℕ) (some : (w : Replay) → 1 ≤ length (payload w)) (write : Writing)
+    (is : (a b c : List ℕ) (room : ℕ) → write a b c room ≡ answerOf room (replay a b c >>= λ w. fits kind limit room (payload w))) where
+  -- the file of a list
+  abbrev fileFor : Instance → List Move → List ℕ
+  fileFor it xs = fileOf kind (payload (record { it = it; moves = xs }))
+
+  -- it answers a legal list to the goals
+  gives : Gives limit fileFor write
+  gives a b it xs room i r h = rw (is a b (moveFile xs) room)
+      (answer-of listNumbers (replay a b (moveFile xs)) (numbered-replay a b (moveFile xs)) kind limit payload some room (record { it = it; moves = xs }) (replay-complete a b it xs i r h))
+
+  -- and accepts nothing else
+  takes : Takes limit fileFor write
+  takes a b c room h e =
+      let z = rw (is a b c room) at e in
+      let w = answer-zero listNumbers (replay a b c) (numbered-replay a b c) kind limit payload some room list-zero z in
+      let x = answer-of listNumbers (replay a b c) (numbered-replay a b c) kind limit payload some room (w .0) (w .1) in
+      let s = replay-sound a b c (w .0) h (w .1) in
+      (w .0 .it, s .instance, w .0 .moves, s .reaches, s .file, s .size, x .whole .0 z .0, is a b c room ∙ x .wrote z)
+
+-- drawing answers with the plan
 pub draws : Draws drawing
 unfolding Draws
-draws a b it xs room i r h = rw (drawing-is a b (moveFile xs) room)
-    (answer-of listNumbers (replay a b (moveFile xs)) (numbered-replay a b (moveFile xs)) 3 64 planOf some-plan room (record { it = it; moves = xs }) (replay-complete a b it xs i r h))
+draws = gives 3 64 planOf some-plan drawing drawing-is
 
--- and accepts nothing else
 pub drawn : Drawn drawing
 unfolding Drawn
-drawn a b c room h e =
-    let z = rw (drawing-is a b c room) at e in
-    let w = answer-zero listNumbers (replay a b c) (numbered-replay a b c) 3 64 planOf some-plan room list-zero z in
-    let x = answer-of listNumbers (replay a b c) (numbered-replay a b c) 3 64 planOf some-plan room (w .0) (w .1) in
-    let s = replay-sound a b c (w .0) h (w .1) in
-    (w .0 .it, s .instance, w .0 .moves, s .reaches, s .file, s .size, x .whole .0 z .0, drawing-is a b c room ∙ x .wrote z)
+drawn = takes 3 64 planOf some-plan drawing drawing-is
+
+-- rounds answers with the round sheet
+pub times : Times rounds
+unfolding Times
+times = gives 5 128 sheetOf some-sheet rounds rounds-is
+
+pub timed : Timed rounds
+unfolding Timed
+timed = takes 5 128 sheetOf some-sheet rounds rounds-is
 
 -- a file that is written is what is read up to its length
 written : (room : ℕ) (x : Answer) (f : List ℕ) → x ≡ writes room f → take (x .value) (x .buffer) ≡ f
@@ -151,22 +175,6 @@ onePlan a b c room other h e f =
     let i : v .0 ≡ w .0 = ok-injective (sym (v .1) ∙ w .1) in
     let m : v .2 ≡ w .2 = oneList (v .2) (w .2) (rw (v .4) at (v .5)) (rw (w .4) at (w .5)) (sym (v .4) ∙ w .4) in
     written room _ _ (v .7) ∙ ap₂ {C = List ℕ} planFile i m ∙ sym (written other _ _ (w .7))
-
--- rounds answers a legal list to the goals with its round sheet
-pub times : Times rounds
-unfolding Times
-times a b it xs room i r h = rw (rounds-is a b (moveFile xs) room)
-    (answer-of listNumbers (replay a b (moveFile xs)) (numbered-replay a b (moveFile xs)) 5 128 sheetOf some-sheet room (record { it = it; moves = xs }) (replay-complete a b it xs i r h))
-
--- and accepts nothing else
-pub timed : Timed rounds
-unfolding Timed
-timed a b c room h e =
-    let z = rw (rounds-is a b c room) at e in
-    let w = answer-zero listNumbers (replay a b c) (numbered-replay a b c) 5 128 sheetOf some-sheet room list-zero z in
-    let x = answer-of listNumbers (replay a b c) (numbered-replay a b c) 5 128 sheetOf some-sheet room (w .0) (w .1) in
-    let s = replay-sound a b c (w .0) h (w .1) in
-    (w .0 .it, s .instance, w .0 .moves, s .reaches, s .file, s .size, x .whole .0 z .0, rounds-is a b c room ∙ x .wrote z)
 
 -- ---- demand 3
 

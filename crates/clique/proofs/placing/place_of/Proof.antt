@@ -5,7 +5,7 @@ use Rattle.spec.specs.Arrangement.{seek}
 use Rattle.spec.specs.State.{arrangementOf}
 use Rattle.motion.specs.States.{stateOf}
 use Rattle.clique.specs.Places.{seek-nobody}
-use Rattle.theory.specs.Maps.State.{cell-of}
+use Rattle.theory.specs.Maps.Cells.{cell-of}
 use Rattle.clique.proofs.placing.place_of.Statement.{statement}
 use Rattle.clique.proofs.placing.place_of.Tie as tie
 

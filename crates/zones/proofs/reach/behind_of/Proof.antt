@@ -1,0 +1,27 @@
+use mathlib.Core.Path.{_≡_, sym, ap, _∙_}
+use Rattle.zones.specs.Kinds.{clique-behind, ring-behind, hall-behind}
+use borrow.Author.Needs.{needs}
+use Rattle.zones.proofs.reach.behind_of.Statement.{statement}
+use Rattle.zones.proofs.reach.behind_of.Tie as tie
+use Rattle.zones.proofs.reach.behind_of.Reads as reads
+use Rattle.zones.proofs.reach.behind_of.Lts as lts
+use Rattle.hall.proofs.behind.Reads as reach-behind-reads
+use Rattle.ring.proofs.behind.Reads as turning-behind-reads
+
+behind-requires : tie.Need-behind-requires
+behind-requires c κs = search needs
+
+behind-requires-2 : tie.Need-behind-requires-2
+behind-requires-2 c κs = search needs
+
+returns : tie.Need-returns
+returns c = clique-behind _ (c .match .keys1) _ _
+
+returns-2 : tie.Need-returns-2
+returns-2 c = c .behind .ensures ∙ ring-behind _ (c .before .match .keys2) _ _
+
+returns-3 : tie.Need-returns-3
+returns-3 c = c .behind2 .ensures ∙ hall-behind _ (c .before .match .rest .0 .1) (c .before .match .rest .1) _ _
+
+pub behind-of-spec : {M : Type 1} → statement M
+behind-of-spec = tie.close (tie.spec behind-requires behind-requires-2 returns returns-2 returns-3)
