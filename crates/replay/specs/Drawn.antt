@@ -1,16 +1,26 @@
 -- How far the drawing of a plan has come: the steps of the moves that passed are laid, what is left laid from here is the whole.
-use mathlib.Core.Path.{_≡_, refl, sym, ap, _∙_}
+use mathlib.Core.Path.{_≡_, refl, sym, ap, ap₂, _∙_}
 use Prim.Native.Nat.{ℕ, zero, suc, _+_, _-_, _*_, _≤_, _<_}
 use native.Mathlib.Omega.{arith}
 use mathlib.Core.Bool.{Bool, true, false}
 use mathlib.Core.List.{List, [], _∷_, _++_}
-use lib.ListN.{length, length-append}
-use lib.Dec.{eqb}
-use borrow.Author.Tests.{eq-eqb, ne-eqb}
-use Rattle.spec.specs.Layout.{Map, zoneOf}
-use Rattle.spec.specs.Arrangement.{Move, mv}
-use Rattle.spec.specs.State.{State, Step, moved, stepOf, drawnSteps, stepBytes}
+use lib.ListN.{length, getD, take, drop, length-append, length-drop}
+use lib.Seq.{length-take-le}
+use lib.Dec.{eqb, leb}
+use borrow.Author.Tests.{eq-eqb, ne-eqb, le-leb, lt-leb}
+use Rattle.spec.specs.Outcome.{_&&_, indexOf}
+use Rattle.spec.specs.Layout.{Map, Zone, zoneOf, zoneAt}
+use Rattle.spec.specs.Arrangement.{Move, mv, lastFree}
+use Rattle.spec.specs.ZoneKind.{behindOf}
+use Rattle.spec.specs.State.{State, Step, moved, arrangementOf, stepOf, drawnSteps, stepBytes}
+use Rattle.spec.specs.Terms.{Stands}
+use Rattle.theory.specs.Maps.Layout.{Accepted}
+use Rattle.layout.specs.declared.MapRead.{MapRead}
+use Rattle.layout.specs.Map.{MapHeld}
+use Rattle.layout.specs.Tables.{entryOf, entry-is}
 use Rattle.wire.specs.Laid.{laidAll, laid-length, laid-append}
+use Rattle.replay.specs.declared.Drawn.{Drawn}
+use Rattle.replay.specs.Follow.{followed, stepFrom, follow-length}
 use Rattle.replay.specs.Moves.{moveBy, movesBy, moves-next, moves-done}
 
 -- the bytes of one step
@@ -73,3 +83,124 @@ module _ (m : Map) (byte : ℕ → ℕ) (n : ℕ) (s₀ : State) (o₀ : List �
   drawing-end i s steps off o d h =
       let e = moves-done byte i n h in
       (let c = rw e at (d .count) in omega arith, let c = rw e at (d .size) in omega arith, rw e at (d .buffer))
+
+-- ---- one move
+
+-- what a move does to the drawing: nothing inside a zone, else its step is laid
+pub record MoveDrawn (m : Map) (s : State) (x : Move) (d : Drawn) (o : List ℕ) (q : Drawn) (o′ : List ℕ) : Type 0 where
+  pub inside : zoneOf m (x .from) ≡ zoneOf m (x .to) → (q .steps ≡ d .steps) × (q .bytes ≡ d .bytes) × (o′ ≡ o)
+  pub crossing : (zoneOf m (x .from) ≡ zoneOf m (x .to) → ⊥)
+      → (q .steps ≡ d .steps + 1) × (q .bytes ≡ d .bytes + length (oneStep (stepOf m s x))) × (o′ ≡ laidAll o (d .bytes) (oneStep (stepOf m s x)))
+
+-- the bytes of a step into a zone
+abbrev stepInto : State → ℕ → ℕ → ℕ → Zone → List ℕ
+stepInto s r u v z =
+    stepFrom s (z .vertices) (indexOf v (z .vertices)) r u v (behindOf (z .kind) (arrangementOf s (z .vertices)) (indexOf v (z .vertices)))
+    (eqb (z .kind) 3 && lastFree (arrangementOf s (z .vertices)))
+
+step-into : (m : Map) (s : State) (r u v : ℕ) → stepInto s r u v (zoneAt m (zoneOf m v)) ≡ oneStep (stepOf m s (mv r u v))
+unfolding stepFrom stepOf followed
+step-into m s r u v = refl
+
+-- the bytes that are laid are the step's
+step-is : (m : Map) (s : State) (r u v kind j behind : ℕ) (vs : List ℕ) (filled : Bool) → zoneAt m (zoneOf m v) ≡ record { kind = kind; vertices = vs }
+    → j ≡ indexOf v vs → behind ≡ behindOf kind (arrangementOf s vs) j → filled ≡ (eqb kind 3 && lastFree (arrangementOf s vs))
+    → stepFrom s vs j r u v behind filled ≡ oneStep (stepOf m s (mv r u v))
+step-is m s r u v kind j behind vs filled ez ej eb ef =
+    ap₂ (λ (b : ℕ) (f : Bool). stepFrom s vs j r u v b f) eb ef
+    ∙ ap (λ (i : ℕ). stepFrom s vs i r u v (behindOf kind (arrangementOf s vs) i) (eqb kind 3 && lastFree (arrangementOf s vs))) ej
+    ∙ sym (ap (stepInto s r u v) ez) ∙ step-into m s r u v
+
+-- the part of a listing from a to before e; nothing where the listing ends before
+unfoldable pub partOf : List ℕ → ℕ → ℕ → List ℕ
+partOf l a e = elim (leb e (length l)) [ true ↦ take (e - a) (drop a l) | false ↦ [] ]
+
+pub part-in : (l : List ℕ) (a e : ℕ) → e ≤ length l → take (e - a) (drop a l) ≡ partOf l a e
+unfolding partOf
+part-in l a e h = rw (le-leb e (length l) h, partOf)
+
+pub part-out : (l : List ℕ) (a e : ℕ) → length l < e → [] ≡ partOf l a e
+unfolding partOf
+part-out l a e h = rw (lt-leb e (length l) h, partOf)
+
+-- the part of the same listing
+pub part-same : (l k vs : List ℕ) (a e : ℕ) → vs ≡ partOf l a e → l ≡ k → vs ≡ partOf k a e
+part-same l k vs a e h q = h ∙ ap (λ (x : List ℕ). partOf x a e) q
+
+part-is : (l : List ℕ) (a n : ℕ) → a + n ≤ length l → partOf l a (a + n) ≡ take n (drop a l)
+part-is l a n h = let e : a + n - a ≡ n = omega arith in sym (part-in l a (a + n) h) ∙ ap (λ (k : ℕ). take k (drop a l)) e
+
+module _ (map : MapRead) (m : Map) (h : MapHeld map m) (g : Accepted m) (u v : ℕ) (hv : v < m .size) where
+  at : Stands m v (zoneOf m v) (indexOf v (zoneAt m (zoneOf m v) .vertices))
+  at = g .placed v hv
+
+  low : zoneOf m v < map .zones
+  low = omega (arith, at .zone, h .count)
+
+  module _ (x y : ℕ) (ex : x ≡ entryOf 128 255 (map .zone) u) (ey : y ≡ entryOf 128 255 (map .zone) v) where
+    from-zone : x ≡ zoneOf m u
+    from-zone = ex ∙ entry-is 128 255 (map .zone) u (h .long-zone) ∙ h .zone-of u
+
+    to-zone : y ≡ zoneOf m v
+    to-zone = ey ∙ entry-is 128 255 (map .zone) v (h .long-zone) ∙ h .zone-of v
+
+    -- a move inside a zone
+    pub drawn-inside : (s : State) (r : ℕ) (d : Drawn) (o : List ℕ) → x ≡ y → MoveDrawn m s (mv r u v) d o d o
+    drawn-inside s r d o e = record { inside = λ z. (refl, refl, refl); crossing = λ n. absurd (n (sym from-zone ∙ e ∙ to-zone)) }
+
+    module _ (kind a n j : ℕ) (ek : kind ≡ entryOf 64 0 (map .kind) y) (ea : a ≡ entryOf 64 0 (map .first) y) (en : n ≡ entryOf 64 0 (map .size) y)
+        (ej : j ≡ entryOf 128 0 (map .place) v) where
+      kind-is : kind ≡ getD (map .kind) (zoneOf m v) 0
+      kind-is = ek ∙ entry-is 64 0 (map .kind) y (h .long-kind) ∙ ap (λ (z : ℕ). getD (map .kind) z 0) to-zone
+
+      first-is : a ≡ getD (map .first) (zoneOf m v) 0
+      first-is = ea ∙ entry-is 64 0 (map .first) y (h .long-first) ∙ ap (λ (z : ℕ). getD (map .first) z 0) to-zone
+
+      size-is : n ≡ getD (map .size) (zoneOf m v) 0
+      size-is = en ∙ entry-is 64 0 (map .size) y (h .long-size) ∙ ap (λ (z : ℕ). getD (map .size) z 0) to-zone
+
+      -- the zone that is entered is a part of the listing
+      pub part-fits : a + n ≤ 128
+      part-fits = omega (arith, first-is, size-is, h .inside (zoneOf m v) low)
+
+      zone-is : zoneAt m (zoneOf m v) ≡ record { kind = kind; vertices = take n (drop a (map .listed)) }
+      zone-is = rw (kind-is, first-is, size-is) (h .zone-at (zoneOf m v) low)
+
+      to-place : j ≡ indexOf v (zoneAt m (zoneOf m v) .vertices)
+      to-place = ej ∙ entry-is 128 0 (map .place) v (h .long-place) ∙ h .place-of v
+
+      -- and `to` has a place there
+      pub place-low : j < n
+      place-low =
+          let l : length (take n (drop a (map .listed))) ≡ n = length-take-le n (drop a (map .listed)) (rw length-drop (omega (arith, h .long-listed, part-fits))) in
+          omega (arith, at .place, to-place, ap (λ (z : Zone). length (z .vertices)) zone-is)
+
+      listing-part : partOf (map .listed) a (a + n) ≡ take n (drop a (map .listed))
+      listing-part = part-is (map .listed) a n (omega (arith, h .long-listed, part-fits))
+
+      -- the zone is as long as the tables say
+      pub part-whole : (vs : List ℕ) → vs ≡ partOf (map .listed) a (a + n) → length vs ≡ n
+      part-whole vs e = ap length (e ∙ listing-part) ∙ length-take-le n (drop a (map .listed)) (rw length-drop (omega (arith, h .long-listed, part-fits)))
+
+      -- a move between zones, whose step is laid
+      pub drawn-crossing : (s : State) (r : ℕ) (d : Drawn) (o : List ℕ) → (x ≡ y → ⊥) → (behind : ℕ) (filled : Bool) (vs : List ℕ) (bytes : ℕ) (o′ : List ℕ) → vs ≡ partOf (map .listed) a (a + n)
+          → behind ≡ behindOf kind (arrangementOf s vs) j → filled ≡ (eqb kind 3 && lastFree (arrangementOf s vs))
+          → bytes ≡ d .bytes + length (stepFrom s vs j r u v behind filled) → o′ ≡ laidAll o (d .bytes) (stepFrom s vs j r u v behind filled)
+          → MoveDrawn m s (mv r u v) d o (record { steps = d .steps + 1; bytes = bytes }) o′
+      drawn-crossing s r d o ne behind filled vs bytes o′ ev eb ef eby eo =
+          let ez : zoneAt m (zoneOf m v) ≡ record { kind = kind; vertices = vs } = rw (ev ∙ listing-part) zone-is in
+          let w = step-is m s r u v kind j behind vs filled ez (to-place ∙ ap (λ (z : Zone). indexOf v (z .vertices)) ez) eb ef in
+          record {
+            inside = λ z. absurd (ne (from-zone ∙ z ∙ sym to-zone));
+            crossing = λ z. (refl, eby ∙ ap (λ (l : List ℕ). d .bytes + length l) w, eo ∙ ap (laidAll o (d .bytes)) w);
+          }
+
+step-most : (s : State) (vs : List ℕ) (j r u v behind : ℕ) (filled : Bool) → length (stepFrom s vs j r u v behind filled) ≤ 4 + length vs
+unfolding stepFrom
+step-most s vs j r u v behind true = omega (arith, follow-length s vs j r)
+step-most s vs j r u v behind false = omega arith
+
+-- a step takes at most four bytes and one a place
+pub step-near : (s : State) (vs : List ℕ) (j r u v behind : ℕ) (filled : Bool) (bytes off : ℕ) → bytes ≡ off + length (stepFrom s vs j r u v behind filled) → length vs ≤ 128
+    → bytes ≤ off + 132
+step-near s vs j r u v behind filled bytes off e h = omega (arith, step-most s vs j r u v behind filled)

@@ -2,5 +2,5 @@
 pub mod Moves
 pub mod Rounds
 pub mod Check
-pub mod Drawn
 pub mod Follow
+pub mod Drawn

@@ -2,9 +2,16 @@
 ghost use mathlib.Core.Path.{_≡_};
 ghost use Prim.Native.Nat.{_+_, _≤_, _<_};
 ghost use lib.ListN.{length};
+ghost use Rattle.spec.specs.Layout.{Map};
+ghost use Rattle.spec.specs.Arrangement.{mv};
+ghost use Rattle.theory.specs.Maps.Layout.{Accepted};
+ghost use Rattle.layout.specs.Map.{MapHeld};
 ghost use Rattle.wire.specs.Laid.{laidAll};
 ghost use Rattle.motion.specs.States.{stateOf};
+ghost use Rattle.replay.specs.Drawn.{MoveDrawn, partOf};
 ghost use Rattle.replay.specs.Follow.{seated, followed, stepFrom};
+use crate::Drawn;
+use layout::MapRead;
 use motion::State;
 use numbering::Vertex;
 
@@ -57,4 +64,64 @@ fn write_step(
         return off + 4 + zone.len();
     }
     off + 4
+}
+
+// The part of a listing from a to before e; nothing where the listing ends before.
+fn part_of(listed: &[u8], a: usize, e: usize) -> &[u8]
+    requires { ⌜ a ≤ e ⌝ }
+    ensures { λ r. ⌜ now r ≡ partOf (now (listed .entry)) a e ⌝ }
+{
+    if e <= listed.len() {
+        return &listed[a..e];
+    }
+    &listed[0..0]
+}
+
+// Lays the step of robot r's move from u to v, if that is a move between zones.
+fn draw_move(
+    d: Drawn,
+    s: State,
+    map: MapRead,
+    listed: &[u8],
+    r: u8,
+    u: u8,
+    v: u8,
+    out: &mut [u8],
+) -> Drawn
+    requires { ⌜ (d .steps < 65536) × (d .bytes < 4294967040) ⌝ }
+    ensures { λ q. ⌜ ((m : Map) → MapHeld map m → now (listed .entry) ≡ map .listed → v < m .size → Accepted m → MoveDrawn m (stateOf s) (mv r u v) d (now (out .entry)) q (now (out .exit))) ⌝ }
+    ensures { λ q. ⌜ (q .steps ≤ d .steps + 1) × (q .bytes ≤ d .bytes + 132) ⌝ }
+{
+    let zone = map.zone;
+    let x = layout::tables::zone_of(&zone, Vertex(u));
+    let y = layout::tables::zone_of(&zone, Vertex(v));
+    if x.0 == y.0 {
+        return d;
+    }
+    let kinds = map.kind;
+    let firsts = map.first;
+    let sizes = map.size;
+    let kind = layout::tables::zone_entry(&kinds, y);
+    let a = layout::tables::zone_entry(&firsts, y) as usize;
+    let n = layout::tables::zone_entry(&sizes, y) as usize;
+    let e = a + n;
+    if e > 128 {
+        return d;
+    }
+    let place = map.place;
+    let j = layout::tables::place_of(&place, Vertex(v)) as usize;
+    if j >= n {
+        return d;
+    }
+    let part = part_of(listed, a, e);
+    if part.len() != n {
+        return d;
+    }
+    let behind = zones::behind_of(kind, s, part, j);
+    let filled = zones::fills(kind, s, part);
+    let bytes = write_step(s, part, j, r, u, v, behind, filled, d.bytes, out);
+    Drawn {
+        steps: d.steps + 1,
+        bytes: bytes,
+    }
 }

@@ -29,3 +29,9 @@ pub struct Replay {
     pub list: MoveList,
     pub state: motion::State,
 }
+
+// How many steps are drawn, and the payload offset after them.
+pub struct Drawn {
+    pub steps: usize,
+    pub bytes: usize,
+}
