@@ -2,6 +2,7 @@
 use mathlib.Core.Path.{_≡_, refl, sym, ap, ap₂, _∙_}
 use Prim.Native.Nat.{ℕ, zero, suc, _+_, _-_, _*_, _≤_, _<_}
 use native.Mathlib.Omega.{arith}
+use native.Mathlib.Decide.{ℕ-discrete}
 use mathlib.Core.Bool.{Bool, true, false}
 use mathlib.Core.List.{List, [], _∷_, _++_}
 use lib.ListN.{length, getD, take, drop, length-append, length-drop}
@@ -204,3 +205,36 @@ step-most s vs j r u v behind false = omega arith
 pub step-near : (s : State) (vs : List ℕ) (j r u v behind : ℕ) (filled : Bool) (bytes off : ℕ) → bytes ≡ off + length (stepFrom s vs j r u v behind filled) → length vs ≤ 128
     → bytes ≤ off + 132
 step-near s vs j r u v behind filled bytes off e h = omega (arith, step-most s vs j r u v behind filled)
+
+-- ---- the whole list
+
+-- the moves end on vertices of the map
+abbrev pub EndsOn : Map → (ℕ → ℕ) → ℕ → Type 0
+EndsOn m byte n = (i : ℕ) → i < n → moveBy byte i .to < m .size
+
+-- a move's drawing takes the whole one step on
+pub drawing-next : (m : Map) (byte : ℕ → ℕ) (n : ℕ) (s₀ : State) (o₀ : List ℕ) (i : ℕ) (s t : State) (d q : Drawn) (o o′ : List ℕ) (x : Move)
+    → Drawing m byte n s₀ o₀ i s (d .steps) (d .bytes) o → i < n → x ≡ moveBy byte i → t ≡ moved s x → MoveDrawn m s x d o q o′
+    → Drawing m byte n s₀ o₀ (i + 1) t (q .steps) (q .bytes) o′
+drawing-next m byte n s₀ o₀ i s t d q o o′ x w h ex et y = case (ℕ-discrete (zoneOf m (x .from)) (zoneOf m (x .to)))
+  where
+    case : Dec (zoneOf m (x .from) ≡ zoneOf m (x .to)) → Drawing m byte n s₀ o₀ (i + 1) t (q .steps) (q .bytes) o′
+    case (yes e) =
+        let z = y .inside e in
+        rw (et, z .0, z .1, z .2) (drawing-inside m byte n s₀ o₀ i s (d .steps) (d .bytes) o w h x ex e)
+    case (no e) =
+        let z = y .crossing e in
+        rw (z .0) (drawing-crossing m byte n s₀ o₀ i s (d .steps) (d .bytes) o w h x t (q .bytes) o′ ex et e (z .2) (z .1))
+
+-- what is drawn of n moves from state s: the count of steps, the offset after them, and the buffer
+pub record AllDrawn (m : Map) (byte : ℕ → ℕ) (n : ℕ) (s : State) (o : List ℕ) (q : Drawn) (o′ : List ℕ) : Type 0 where
+  pub count : q .steps ≡ length (drawnSteps m s (movesBy byte 0 n))
+  pub size : q .bytes ≡ 2 + length (stepBytes (drawnSteps m s (movesBy byte 0 n)))
+  pub buffer : o′ ≡ laidAll o 2 (stepBytes (drawnSteps m s (movesBy byte 0 n)))
+
+pub all-drawn : (m : Map) (byte : ℕ → ℕ) (n : ℕ) (s₀ : State) (o₀ : List ℕ) (i : ℕ) (s : State) (q : Drawn) (o : List ℕ)
+    → Drawing m byte n s₀ o₀ i s (q .steps) (q .bytes) o → n ≤ i → AllDrawn m byte n s₀ o₀ q o
+all-drawn m byte n s₀ o₀ i s q o w h =
+    let z = drawing-end m byte n s₀ o₀ i s (q .steps) (q .bytes) o w h in
+    let e : n - 0 ≡ n = omega arith in
+    record { count = rw e at (z .0); size = rw e at (z .1); buffer = rw e at (z .2) }

@@ -32,6 +32,10 @@ bytesOf p off = getD p off 0
 abbrev pub fileBytes : List ℕ → ℕ → ℕ
 fileBytes f off = getD f (placeOf off) 0
 
+-- the move that was read byte by byte
+pub move-of : (byte : ℕ → ℕ) (i r u v : ℕ) → r ≡ byte (2 + i * 3) → u ≡ byte (3 + i * 3) → v ≡ byte (4 + i * 3) → mv r u v ≡ moveBy byte i
+move-of byte i r u v er eu ev = rw (er, eu, ev)
+
 -- the moves are as many as asked for
 pub moves-length : (byte : ℕ → ℕ) (i n : ℕ) → length (movesBy byte i n) ≡ n
 unfolding movesBy

@@ -8,11 +8,13 @@ ghost use Rattle.theory.specs.Maps.Layout.{Accepted};
 ghost use Rattle.layout.specs.Map.{MapHeld};
 ghost use Rattle.wire.specs.Laid.{laidAll};
 ghost use Rattle.motion.specs.States.{stateOf};
-ghost use Rattle.replay.specs.Drawn.{MoveDrawn, partOf};
+ghost use Rattle.replay.specs.Drawn.{MoveDrawn, partOf, EndsOn, AllDrawn};
+ghost use Rattle.replay.specs.Moves.{fileBytes};
 ghost use Rattle.replay.specs.Follow.{seated, followed, stepFrom};
 use crate::Drawn;
 use layout::MapRead;
 use motion::State;
+use numbering::Robot;
 use numbering::Vertex;
 
 // Who stands on place i, a vertex v, once robot r has come in at place j.
@@ -124,4 +126,31 @@ fn draw_move(
         steps: d.steps + 1,
         bytes: bytes,
     }
+}
+
+// Lays the steps of the list's first `count` moves, made from state s, after the two bytes of the count.
+pub fn draw_moves(
+    file: &[u8],
+    count: usize,
+    map: MapRead,
+    listed: [u8; 128],
+    s: State,
+    out: &mut [u8],
+) -> Drawn
+    requires { ⌜ count < 65536 ⌝ }
+    ensures { λ q. ⌜ ((m : Map) → MapHeld map m → Accepted m → listed ≡ map .listed → EndsOn m (fileBytes (now (file .entry))) count → AllDrawn m (fileBytes (now (file .entry))) count (stateOf s) (now (out .entry)) q (now (out .exit))) ⌝ }
+{
+    let mut t = s;
+    let mut d = Drawn { steps: 0, bytes: 2 };
+    let mut i: usize = 0;
+    while i < count {
+        let at = i * 3;
+        let r = wire::payload_byte(file, 2 + at);
+        let u = wire::payload_byte(file, 3 + at);
+        let v = wire::payload_byte(file, 4 + at);
+        d = draw_move(d, t, map, &listed, r, u, v, out);
+        t = motion::moved(t, Robot(r), Vertex(u), Vertex(v));
+        i += 1;
+    }
+    d
 }

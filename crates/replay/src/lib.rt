@@ -4,6 +4,7 @@ pub mod draw;
 pub mod rounds;
 
 pub use check::check_moves;
+pub use draw::draw_moves;
 pub use rounds::write_rounds;
 
 // What is wrong with a move in a state: nothing, a robot or vertex that is not there, no edge, or a robot not at from or `to` taken.
