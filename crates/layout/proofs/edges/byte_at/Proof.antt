@@ -1,0 +1,23 @@
+use borrow.Author.Needs.{needs}
+use native.Mathlib.Omega.{arith}
+use Prim.Native.Nat.{ℕ, _+_, _-_, _*_, _/_, _%_, _≤_, _<_}
+use mathlib.Core.Path.{_≡_, refl, ap, ap₂, sym, _∙_}
+use mathlib.Core.Bool.{Bool, true, false}
+use lib.ListN.{length, getD, take, drop, set}
+use lib.ListN.{List·getD-eq-default}
+use Rattle.layout.proofs.edges.byte_at.Statement.{statement}
+use Rattle.layout.proofs.edges.byte_at.Tie as tie
+use Rattle.layout.proofs.edges.byte_at.Reads as reads
+use Rattle.layout.proofs.edges.byte_at.Lts as lts
+
+shared-slice-read-result : tie.Need-shared-slice-read-result
+shared-slice-read-result c = search needs
+
+returns : tie.Need-returns
+returns c = search needs
+
+returns-2 : tie.Need-returns-2
+returns-2 c = sym (List·getD-eq-default (c .before .args .file .now) 0 {n = c .before .args .at} (c .if1 .left))
+
+pub byte-at-spec : {M : Type 1} → statement M
+byte-at-spec = tie.close (tie.spec shared-slice-read-result returns returns-2)
