@@ -1,14 +1,14 @@
 -- The shape test is the definition's.
-use Prim.Native.Nat.{ℕ, zero, suc, _+_, _-_, _≤_, _<_, min, max}
-use mathlib.Core.Path.{_≡_, refl, ap, ap₂, sym, _∙_}
+use Prim.Native.Nat.{ℕ, _+_, _-_, _≤_, _<_, min, max}
+use mathlib.Core.Path.{_≡_, ap, ap₂, sym, _∙_}
 use mathlib.Core.Bool.{Bool}
 use mathlib.Core.List.{List}
 use lib.ListN.{length, getD, take, drop, length-drop}
 use lib.Seq.{getD-take, getD-drop, length-take-le}
 use native.Mathlib.Omega.{arith}
 use Rattle.spec.specs.Outcome.{below}
-use Rattle.spec.specs.Layout.{Edge, Zone, Map, hasEdge, joined, linked, sameBool, shaped}
-use Rattle.adjacency.specs.Rows.{bitAt, Shows, shows-joined}
+use Rattle.spec.specs.Layout.{Map, hasEdge, joined, linked, sameBool, shaped}
+use Rattle.adjacency.specs.Rows.{Shows, shows-joined}
 use Rattle.kinds.specs.Tests.{pairTest, rowTest, shapeTest, below-same}
 
 -- the vertices of a zone in the listing

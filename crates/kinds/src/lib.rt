@@ -1,7 +1,6 @@
 // Whether a zone is of its kind (document 01, "Zones and configurations"), tested on the rows of the adjacency.
 ghost use mathlib.Core.Path.{_≡_};
-ghost use Prim.Native.Nat.{ℕ, _+_, _-_, _<_, _≤_};
-ghost use lib.ListN.{length, getD};
+ghost use Prim.Native.Nat.{_+_, _-_, _<_, _≤_};
 ghost use Rattle.spec.specs.Layout.{linked, sameBool};
 ghost use Rattle.kinds.specs.Tests.{rowTest, shapeTest, innerTest, closedTest, stackTest, kindTest};
 

@@ -1,17 +1,17 @@
 -- Every zone is tested for its kind, lowest first; what the tests lean on follows from what was read.
-use Prim.Native.Nat.{ℕ, zero, suc, _+_, _-_, _*_, _≤_, _<_}
-use mathlib.Core.Path.{_≡_, refl, ap, ap₂, sym, _∙_}
+use Prim.Native.Nat.{ℕ, zero, suc, _+_, _-_, _≤_, _<_}
+use mathlib.Core.Path.{_≡_, refl, ap, sym, _∙_}
 use mathlib.Core.Bool.{Bool, true, false}
-use mathlib.Core.List.{List, [], _∷_, _++_}
-use lib.ListN.{length, getD, take, drop}
+use mathlib.Core.List.{List, [], _∷_}
+use lib.ListN.{length, getD, drop}
 use lib.Seq.{drop-cons, drop-length}
-use lib.Dec.{T, eqb}
+use lib.Dec.{eqb}
 use borrow.Author.Tests.{eq-eqb, eqb-true}
 use native.Mathlib.Numerals.{add-one}
 use native.Mathlib.Omega.{arith}
-use Rattle.spec.specs.Outcome.{Outcome, ok, refuse, _>>=_, _>>_, check, member, indexOf}
-use Rattle.spec.specs.Layout.{Map, Zone, Edge, Read, readZones, readEdges, hasEdge, leastSize, ofKind, kindsFrom, zoneFrom}
-use Rattle.theory.specs.Basics.Tests.{of-true, true-of}
+use Rattle.spec.specs.Outcome.{ok, refuse, _>>_, check, member, indexOf}
+use Rattle.spec.specs.Layout.{Map, Zone, Edge, readZones, readEdges, leastSize, ofKind, kindsFrom, zoneFrom}
+use Rattle.theory.specs.Basics.Tests.{of-true}
 use Rattle.theory.specs.Basics.Lists.{getD-default}
 use Rattle.theory.specs.Maps.Layout as accepted
 use Rattle.adjacency.specs.Rows.{Shows, same-test}

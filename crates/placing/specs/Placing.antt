@@ -5,7 +5,7 @@ use mathlib.Core.Bool.{Bool, true, false, not}
 use mathlib.Core.List.{List, [], _∷_, _++_}
 use lib.ListN.{length, getD, take, set, replicate, length-set}
 use lib.Seq.{take-suc-set, getD-set-same, getD-set-other, length-take-le}
-use lib.Dec.{eqb, ltb, leb}
+use lib.Dec.{eqb, ltb}
 use borrow.Author.Tests.{lt-ltb, le-ltb, le-leb, lt-leb, eq-eqb, ne-eqb, eqb-true, eqb-false}
 use native.Mathlib.Numerals.{add-one}
 use native.Mathlib.Omega.{arith}
@@ -21,7 +21,7 @@ use Rattle.layout.specs.Fault.{not-both}
 use Rattle.layout.specs.Bytes.{held, held-size, held-payload, no-byte, a-byte}
 use Rattle.layout.specs.Table.{member-snoc, member-here, member-there}
 use Rattle.placing.specs.declared.PlacingFault.{PlacingFault}
-use Rattle.placing.specs.declared.PlacingFault.the-variants.{None, Short}
+use Rattle.placing.specs.declared.PlacingFault.the-variants.{None}
 use Rattle.placing.specs.declared.PlacingRead.{PlacingRead}
 use Rattle.placing.specs.Fault.{answered, soundOf, sound-none, refused, handed, relayed}
 

@@ -1,7 +1,7 @@
 // A placing read from its file, accepted or refused (document 01, "Block files").
 ghost use mathlib.Core.Path.{_≡_};
 ghost use mathlib.Core.Bool.{not};
-ghost use Prim.Native.Nat.{ℕ, _+_, _*_, _<_, _≤_};
+ghost use Prim.Native.Nat.{_+_, _*_, _<_, _≤_};
 ghost use lib.ListN.{getD};
 ghost use lib.Dec.{eqb, ltb};
 ghost use Rattle.spec.specs.Outcome.{_&&_};

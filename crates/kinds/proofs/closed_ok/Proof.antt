@@ -1,17 +1,13 @@
 use borrow.Author.Needs.{needs}
 use native.Mathlib.Omega.{arith}
-use Prim.Native.Nat.{ℕ, _+_, _-_, _*_, _/_, _%_, _≤_, _<_}
-use mathlib.Core.Path.{_≡_, refl, ap, ap₂, sym, _∙_}
-use mathlib.Core.Bool.{Bool, true, false}
-use lib.ListN.{length, getD, take, drop, set}
+use Prim.Native.Nat.{ℕ, _+_, _-_, _≤_}
+use mathlib.Core.Path.{_≡_, refl, ap, sym, _∙_}
+use lib.ListN.{getD}
 use borrow.Author.Tests.{not-true, not-false}
 use Rattle.spec.specs.Outcome.{below}
 use Rattle.kinds.specs.Tests.{innerTest, laterTest, below-more, below-not}
 use Rattle.kinds.proofs.closed_ok.Statement.{statement}
 use Rattle.kinds.proofs.closed_ok.Tie as tie
-use Rattle.kinds.proofs.closed_ok.Reads as reads
-use Rattle.kinds.proofs.closed_ok.Lts as lts
-use Rattle.kinds.proofs.inner_ok.Reads as inner-ok-reads
 
 abbrev Inv-loop : tie.InvT-loop
 Inv-loop rows listed zone z first size i₀ i = (i ≤ size) × (below (laterTest rows listed zone z first) (i - 1) ≡ below (laterTest rows listed zone z first) (size - 1))

@@ -1,17 +1,13 @@
 use borrow.Author.Needs.{needs}
 use native.Mathlib.Omega.{arith}
-use Prim.Native.Nat.{ℕ, _+_, _-_, _*_, _/_, _%_, _≤_, _<_}
-use mathlib.Core.Path.{_≡_, refl, ap, ap₂, sym, _∙_}
-use mathlib.Core.Bool.{Bool, true, false}
-use lib.ListN.{length, getD, take, drop, set}
+use Prim.Native.Nat.{_-_, _≤_}
+use mathlib.Core.Path.{_≡_, refl, ap, sym, _∙_}
+use mathlib.Core.Bool.{true, false}
 use Rattle.spec.specs.Outcome.{below, _||_}
 use borrow.Author.Tests.{eq-eqb, ne-eqb}
 use Rattle.kinds.specs.Tests.{staysTest, below-more, below-not}
 use Rattle.kinds.proofs.inner_ok.Statement.{statement}
 use Rattle.kinds.proofs.inner_ok.Tie as tie
-use Rattle.kinds.proofs.inner_ok.Reads as reads
-use Rattle.kinds.proofs.inner_ok.Lts as lts
-use Rattle.adjacency.proofs.joined.Reads as joined-reads
 
 abbrev Inv-loop : tie.InvT-loop
 Inv-loop rows zone z v u₀ u = (u ≤ 128) × (below (staysTest rows zone z v) u ≡ below (staysTest rows zone z v) 128)

@@ -1,20 +1,12 @@
 use borrow.Author.Needs.{needs}
 use native.Mathlib.Omega.{arith}
-use Prim.Native.Nat.{ℕ, _+_, _-_, _*_, _/_, _%_, _≤_, _<_}
-use mathlib.Core.Path.{_≡_, refl, ap, ap₂, sym, _∙_}
-use mathlib.Core.Bool.{Bool, true, false}
-use lib.ListN.{length, getD, take, drop, set}
+use Prim.Native.Nat.{_+_, _-_, _*_}
+use mathlib.Core.Path.{refl, sym, _∙_}
 use borrow.Author.Tests.{not-true, not-false}
 use Rattle.placing.specs.declared.PlacingFault.the-variants.{Short, Range}
 use Rattle.placing.specs.Placing.{noPlacing, nothing-is, count-short, count-over, count-above, placing-refused, placing-surplus, placing-whole}
 use Rattle.placing.proofs.read_payload.Statement.{statement}
 use Rattle.placing.proofs.read_payload.Tie as tie
-use Rattle.placing.proofs.read_payload.Reads as reads
-use Rattle.placing.proofs.read_payload.Lts as lts
-use Rattle.placing.proofs.read_robots.Reads as read-robots-reads
-use Rattle.placing.proofs.refused.Reads as refused-reads
-use Rattle.placing.proofs.sound.Reads as sound-reads
-use Rattle.wire.proofs.payload_byte.Reads as payload-byte-reads
 
 refused-requires : tie.Need-refused-requires
 refused-requires c κs = search needs

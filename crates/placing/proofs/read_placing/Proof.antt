@@ -1,19 +1,11 @@
 use borrow.Author.Needs.{needs}
-use native.Mathlib.Omega.{arith}
-use Prim.Native.Nat.{ℕ, _+_, _-_, _*_, _/_, _%_, _≤_, _<_}
-use mathlib.Core.Path.{_≡_, refl, ap, ap₂, sym, _∙_}
-use mathlib.Core.Bool.{Bool, true, false}
-use lib.ListN.{length, getD, take, drop, set}
+use Prim.Native.Nat.{_-_}
+use mathlib.Core.Path.{refl, ap}
 use Rattle.wire.specs.Checked.{checkedOf}
 use Rattle.placing.specs.declared.PlacingFault.the-variants.{Length, Checksum, Head, Fill}
 use Rattle.placing.specs.Placing.{placingIn, noPlacing, nothing-is, no-payload, a-payload, payload-bound}
 use Rattle.placing.proofs.read_placing.Statement.{statement}
 use Rattle.placing.proofs.read_placing.Tie as tie
-use Rattle.placing.proofs.read_placing.Reads as reads
-use Rattle.placing.proofs.read_placing.Lts as lts
-use Rattle.placing.proofs.read_payload.Reads as read-payload-reads
-use Rattle.placing.proofs.refused.Reads as refused-reads
-use Rattle.wire.proofs.check_file.Reads as check-file-reads
 
 check-file-requires : tie.Need-check-file-requires
 check-file-requires c κs = search needs

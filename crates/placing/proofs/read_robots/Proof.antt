@@ -1,19 +1,12 @@
 use borrow.Author.Needs.{needs}
 use native.Mathlib.Omega.{arith}
-use Prim.Native.Nat.{ℕ, _+_, _-_, _*_, _/_, _%_, _≤_, _<_}
-use mathlib.Core.Path.{_≡_, refl, ap, ap₂, sym, _∙_}
-use mathlib.Core.Bool.{Bool, true, false}
-use lib.ListN.{length, getD, take, drop, set}
+use Prim.Native.Nat.{_+_, _-_, _*_, _≤_}
+use mathlib.Core.Path.{refl, sym, _∙_}
 use borrow.Author.Tests.{not-true, not-false}
 use Rattle.placing.specs.declared.PlacingFault.the-variants.{Short, Start, Goal}
 use Rattle.placing.specs.Placing.{Going, robots-refused, going-start, going-short, going-start-bad, going-half, going-goal-bad, going-more, going-end}
 use Rattle.placing.proofs.read_robots.Statement.{statement}
 use Rattle.placing.proofs.read_robots.Tie as tie
-use Rattle.placing.proofs.read_robots.Reads as reads
-use Rattle.placing.proofs.read_robots.Lts as lts
-use Rattle.placing.proofs.fresh.Reads as fresh-reads
-use Rattle.placing.proofs.refused.Reads as refused-reads
-use Rattle.wire.proofs.payload_byte.Reads as payload-byte-reads
 
 abbrev Inv-loop : tie.InvT-loop
 Inv-loop file m n k starts₀ goals₀ started₀ ended₀ i₀ starts goals started ended i = (i ≤ k) × Going file m n k starts goals started ended i

@@ -1,20 +1,12 @@
 use borrow.Author.Needs.{needs}
 use native.Mathlib.Omega.{arith}
-use Prim.Native.Nat.{ℕ, _+_, _-_, _*_, _/_, _%_, _≤_, _<_}
-use mathlib.Core.Path.{_≡_, refl, ap, ap₂, sym, _∙_}
-use mathlib.Core.Bool.{Bool, true, false}
-use lib.ListN.{length, getD, take, drop, set}
-use mathlib.Core.List.{List}
+use Prim.Native.Nat.{ℕ, _+_, _-_, _*_, _≤_}
+use mathlib.Core.Path.{_≡_, refl, ap, _∙_}
+use lib.ListN.{getD}
 use Rattle.wire.specs.Payload.{placeOf}
-use Rattle.adjacency.specs.Rows.{join}
 use Rattle.layout.specs.Edges.{GoingEdges, edges-start, edges-short, edges-half, edges-order, edges-over, edges-again, edges-good, edges-end, edges-refused}
 use Rattle.layout.proofs.edges.read_edges.Statement.{statement}
 use Rattle.layout.proofs.edges.read_edges.Tie as tie
-use Rattle.layout.proofs.edges.read_edges.Reads as reads
-use Rattle.layout.proofs.edges.read_edges.Lts as lts
-use Rattle.adjacency.proofs.add_edge.Reads as add-edge-reads
-use Rattle.layout.proofs.edges.byte_at.Reads as byte-at-reads
-use Rattle.layout.proofs.edges.next_place.Reads as next-place-reads
 
 abbrev Inv-loop : tie.InvT-loop
 Inv-loop file m n e from rows₀ at₀ k₀ least₀ rows at k least = (k ≤ e) × (at ≡ placeOf (from + k * 2)) × GoingEdges file m n e from rows₀ rows k least
