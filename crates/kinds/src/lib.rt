@@ -47,7 +47,7 @@ fn row_ok(
     while 0 < i {
         i -= 1;
         let u = listed[first + i];
-        let h = adjacency::joined(rows, numbering::Vertex(u), numbering::Vertex(v));
+        let h = adjacency::joined(rows, numbering::Vertex(v), numbering::Vertex(u));
         let l = links(kind, size, i, j);
         if !same(h, l) {
             return false;
