@@ -39,5 +39,5 @@ module _ (listed : List ℕ) (first size : ℕ) (inside : first + size ≤ lengt
 
       one : (i j : ℕ) → i < size → j < size → pairTest rows listed first kind size j i ≡ pair size j i
       one i j p q = ap (λ (b : Bool). sameBool b (linked kind size i j)) (shows-joined rows (m .edges) s (getD listed (first + j) 0) (getD listed (first + i) 0)
-        ∙ ap₂ (hasEdge (m .edges)) (min-comm (getD listed (first + j) 0) (getD listed (first + i) 0)) (max-comm (getD listed (first + j) 0) (getD listed (first + i) 0))
-        ∙ ap₂ (λ (x y : ℕ). hasEdge (m .edges) (min x y) (max x y)) (sym (part-at i p)) (sym (part-at j q)))
+          ∙ ap₂ (hasEdge (m .edges)) (min-comm (getD listed (first + j) 0) (getD listed (first + i) 0)) (max-comm (getD listed (first + j) 0) (getD listed (first + i) 0))
+          ∙ ap₂ (λ (x y : ℕ). hasEdge (m .edges) (min x y) (max x y)) (sym (part-at i p)) (sym (part-at j q)))
