@@ -13,7 +13,8 @@ use Rattle.spec.specs.Outcome.{ok, refuse, _>>_, check, member, indexOf}
 use Rattle.spec.specs.Layout.{Map, Zone, Edge, readZones, readEdges, leastSize, ofKind, kindsFrom, zoneFrom}
 use Rattle.theory.specs.Basics.Tests.{of-true}
 use Rattle.theory.specs.Basics.Lists.{getD-default}
-use Rattle.theory.specs.Maps.Layout as accepted
+use Rattle.theory.specs.Maps.Layout as listing
+use Rattle.theory.specs.Maps.Layout.{no-edge, read-edges, has-edge}
 use Rattle.adjacency.specs.Rows.{Shows, same-test}
 use Rattle.kinds.specs.Tests.{kindTest}
 use Rattle.kinds.specs.Shape.{part, part-length}
@@ -87,8 +88,8 @@ zone-found i (x ∷ zs) (suc j) v b l e = go (member v (x .vertices)) e (zone-fo
 
 module _ (p : List ℕ) (n c : ℕ) (small : n ≤ 128) (few : c ≤ 64) (h : Heads) (l zone place : List ℕ) (o : ℕ)
     (read : readZones n p c 2 [] [] ≡ ok (record { it = zonesIn h l c; next = o })) (held : ZonesHeld h l zone place c) where
-  zoned : accepted.Zones n [] (zonesIn h l c)
-  zoned = let r = accepted.read-zones p c 2 [] [] (record { it = zonesIn h l c; next = o }) read in rw (r .1) (r .2)
+  zoned : listing.Zones n [] (zonesIn h l c)
+  zoned = let r = listing.read-zones p c 2 [] [] (record { it = zonesIn h l c; next = o }) read in rw (r .1) (r .2)
 
   count : length (zonesIn h l c) ≡ c
   count = zones-length h l c
@@ -104,22 +105,22 @@ module _ (p : List ℕ) (n c : ℕ) (small : n ≤ 128) (few : c ≤ 64) (h : He
     listed-in : (u : ℕ) → u < 128 → member u (zoneIn h l j .vertices) ≡ eqb (getD zone u 0) j
     listed-in u b =
         same-test (member u (zoneIn h l j .vertices)) (eqb (getD zone u 0) j)
-        (λ e. eq-eqb (getD zone u 0) j (same ∙ accepted.zones-at zoned 0 j u lower (of-true (ap (λ (z : Zone). member u (z .vertices)) here ∙ e)) ∙ omega arith))
+        (λ e. eq-eqb (getD zone u 0) j (same ∙ listing.zones-at zoned 0 j u lower (of-true (ap (λ (z : Zone). member u (z .vertices)) here ∙ e)) ∙ omega arith))
         (λ e. ap (λ (z : Zone). member u (z .vertices)) (sym here) ∙ zone-found 0 (zonesIn h l c) j u (omega (arith, count)) lower (sym same ∙ eqb-true (getD zone u 0) j e ∙ omega arith))
       where
         same : getD zone u 0 ≡ zoneFrom 0 (zonesIn h l c) u
         same = getD-default zone u 0 255 (omega (arith, held .long-zone)) ∙ held .zoned u
 
-    fresh : (seen : List ℕ) × accepted.Fresh n seen (zoneIn h l j .vertices)
-    fresh = let f = accepted.zones-fresh zoned j lower in (f .0, rw here at (f .1))
+    fresh : (seen : List ℕ) × listing.Fresh n seen (zoneIn h l j .vertices)
+    fresh = let f = listing.zones-fresh zoned j lower in (f .0, rw here at (f .1))
 
     kind-range : (1 ≤ getD (h .kind) j 0) × (getD (h .kind) j 0 ≤ 4) × (getD (h .first) j 0 + getD (h .size) j 0 ≤ 128)
-    kind-range = let k = accepted.zones-kind zoned j lower in ((rw here at (k .0)), (rw here at (k .1)), held .inside j low)
+    kind-range = let k = listing.zones-kind zoned j lower in ((rw here at (k .0)), (rw here at (k .1)), held .inside j low)
 
   -- no zone is empty
   pub zone-some : (j : ℕ) → j < c → 1 ≤ getD (h .size) j 0
   zone-some j low =
-      let k = accepted.zones-kind zoned j (lower j low) in
+      let k = listing.zones-kind zoned j (lower j low) in
       let x : leastSize (getD (h .kind) j 0) ≤ length (zoneIn h l j .vertices) = rw (here j low) at (k .2) in
       omega (arith, least-some (getD (h .kind) j 0), part-length l (getD (h .first) j 0) (getD (h .size) j 0) (omega (arith, held .inside j low, held .long-listed)))
 
@@ -131,16 +132,16 @@ module _ (p : List ℕ) (n c : ℕ) (small : n ≤ 128) (few : c ≤ 64) (h : He
     long = held .long-listed;
     kinds = kind-range;
     stacks = λ j low. record {
-      proper = λ a b t. let q = accepted.has-edge (accepted.read-edges n p e from 0 [] es accepted.no-edge w) a b (of-true t) in (q .0, omega arith);
+      proper = λ a b t. let q = has-edge (read-edges n p e from 0 [] es no-edge w) a b (of-true t) in (q .0, omega arith);
       inside = listed-in j low;
       once = λ i g b t. once· j low i g b t;
-      small = λ i b. let q = accepted.fresh-lt (fresh j low .1) i b in omega arith;
+      small = λ i b. let q = listing.fresh-lt (fresh j low .1) i b in omega arith;
     };
   }
     where
       once· : (j : ℕ) (low : j < c) (i : ℕ) → 0 < i → i < length (zoneIn h l j .vertices) → getD (zoneIn h l j .vertices) i 0 ≡ getD (zoneIn h l j .vertices) 0 0 → ⊥
       once· j low i g b t =
-          let x = accepted.fresh-index (fresh j low .1) i b in
-          let y = accepted.fresh-index (fresh j low .1) 0 (omega arith) in
+          let x = listing.fresh-index (fresh j low .1) i b in
+          let y = listing.fresh-index (fresh j low .1) 0 (omega arith) in
           let q : i ≡ 0 = sym x ∙ ap (λ (v : ℕ). indexOf v (zoneIn h l j .vertices)) t ∙ y in
           omega arith
