@@ -25,7 +25,7 @@ refused-requires-2 c κs = search needs
 returns-2 : tie.Need-returns-2
 returns-2 c = λ p on.
     let a = c .before .before .before .before .before .args in
-    nothing-is _ Range noPlacing _ (count-over (a .file .now) (a .m) (a .n) p on (c .before .before .payload-byte .result) (c .before .before .payload-byte .ensures) (omega arith) (c .before .if2 .taken)) refl (c .refused2 .ensures .fault-is) (c .refused2 .ensures .tables)
+    nothing-is _ Range noPlacing _ (count-over (a .file .now) (a .m) (a .n) p on (c .before .before .payload-byte .result) (c .before .before .payload-byte .ensures) (omega arith) (omega arith)) refl (c .refused2 .ensures .fault-is) (c .refused2 .ensures .tables)
 
 cast-if3 : tie.Need-cast-if3
 cast-if3 c = search needs
