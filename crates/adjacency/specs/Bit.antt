@@ -1,6 +1,6 @@
 -- Bit i of a number, and the laws of setting one.
 use mathlib.Core.Path.{_≡_, refl, ap, _∙_}
-use Prim.Native.Nat.{ℕ, zero, suc, _+_, _-_, _*_, _/_, _%_, _^_, _≤_, _<_}
+use Prim.Native.Nat.{ℕ, zero, suc, _+_, _-_, _/_, _%_, _^_, _<_}
 use native.Mathlib.Nat.{pow-suc, pow-succ', div-div-eq-div-mul, div-one, zero-div, mul-div-cancel, mul-mod-left, mod-lt, zero-lt-suc}
 use native.Mathlib.Omega.{arith}
 use lib.Bits.{bitOr, or-shr, or-mod, or-zero-r}

@@ -1,19 +1,18 @@
 -- Rows of bits, and what they say of a list of edges.
-use Prim.Native.Nat.{ℕ, zero, suc, _+_, _-_, _*_, _/_, _%_, _^_, _≤_, _<_, min, max}
+use Prim.Native.Nat.{ℕ, zero, suc, _+_, _-_, _/_, _%_, _^_, _≤_, _<_, min, max}
 use mathlib.Core.Path.{_≡_, refl, ap, ap₂, sym, _∙_}
 use mathlib.Core.Logic.{_⊎_, inl, inr}
 use mathlib.Core.Bool.{Bool, true, false, not}
 use mathlib.Core.List.{List, [], _∷_, _++_}
-use lib.ListN.{length, getD, take, drop, set, replicate, length-set, length-replicate, getD-replicate, List·getD-eq-default}
-use lib.Seq.{getD-set-same, getD-set-other, take-suc-set, take-all}
-use lib.Dec.{eqb, ltb, leb}
+use lib.ListN.{length, getD, set, replicate, length-set, getD-replicate, List·getD-eq-default}
+use lib.Seq.{getD-set-same, getD-set-other}
+use lib.Dec.{eqb, ltb}
 use lib.Bits.{bitOr}
-use borrow.Author.Tests.{eq-eqb, ne-eqb, eqb-true, eqb-false, ltb-true, ltb-false, lt-ltb, le-ltb}
-use native.Mathlib.Numerals.{add-one}
+use borrow.Author.Tests.{eq-eqb, eqb-true, eqb-false, ltb-true, ltb-false, lt-ltb, le-ltb}
 use native.Mathlib.Nat.{zero-div}
 use native.Mathlib.Omega.{arith}
 use Rattle.spec.specs.Outcome.{_&&_, _||_}
-use Rattle.spec.specs.Layout.{Edge, Map, hasEdge, joined}
+use Rattle.spec.specs.Layout.{Edge, hasEdge, joined}
 use Rattle.adjacency.specs.Bit.{bitOf, set-same, set-other}
 
 -- bit b of row a

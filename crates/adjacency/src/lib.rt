@@ -1,7 +1,6 @@
 // Adjacency: one row of two words for each of 128 vertices (document 01, "there is an edge between every two of its points").
 ghost use mathlib.Core.Path.{_≡_};
-ghost use Prim.Native.Nat.{ℕ, _+_, _*_, _<_, _≤_};
-ghost use lib.ListN.{length, getD};
+ghost use Prim.Native.Nat.{_*_, _<_};
 ghost use Rattle.adjacency.specs.Rows.{bitAt, putBit, blank, join};
 
 // Is there an edge between two vertices? One that is not below 128 has none.

@@ -1,16 +1,16 @@
 -- The test that no edge leads out of a stack but from its first vertex is the definition's.
-use Prim.Native.Nat.{ℕ, zero, suc, _+_, _-_, _≤_, _<_, min, max}
+use Prim.Native.Nat.{ℕ, _+_, _-_, _≤_, _<_, min, max}
 use mathlib.Core.Path.{_≡_, refl, ap, ap₂, sym, _∙_}
 use mathlib.Core.Logic.{_⊎_, inl, inr}
 use mathlib.Core.Bool.{Bool, true, false, not}
 use mathlib.Core.List.{List, [], _∷_}
 use lib.ListN.{length, getD}
-use lib.Dec.{T, eqb}
-use borrow.Author.Tests.{eq-eqb, ne-eqb, eqb-true, eqb-false}
+use lib.Dec.{eqb}
+use borrow.Author.Tests.{eq-eqb, eqb-true}
 use native.Mathlib.Omega.{arith}
 use native.Mathlib.Nat.{min-comm, max-comm}
 use Rattle.spec.specs.Outcome.{_&&_, _||_, all, member, below, indexOf}
-use Rattle.spec.specs.Layout.{Edge, Zone, Map, hasEdge, joined, sameBool, closed}
+use Rattle.spec.specs.Layout.{Edge, Map, hasEdge, sameBool, closed}
 use Rattle.theory.specs.Basics.Tests.{below-at, true-of, of-true}
 use Rattle.theory.specs.Basics.Lists.{index-in, in-getD}
 use Rattle.adjacency.specs.Rows.{bitAt, Shows, shows-joined, same-test, and-true, or-true, or-left, or-right, both, lt-or-ge}

@@ -1,16 +1,15 @@
 -- The kind test is the definition's, for every kind and size.
 use Prim.Native.Nat.{ℕ, zero, suc, _+_, _-_, _≤_, _<_}
 use mathlib.Core.Path.{_≡_, refl, ap, ap₂, sym, _∙_}
-use mathlib.Core.Bool.{Bool, true, false}
+use mathlib.Core.Bool.{false}
 use mathlib.Core.List.{List}
-use lib.ListN.{length, getD}
-use lib.Dec.{eqb, leb}
-use borrow.Author.Tests.{eq-eqb, ne-eqb, le-leb, lt-leb}
+use lib.ListN.{length}
+use borrow.Author.Tests.{ne-eqb, le-leb, lt-leb}
 use native.Mathlib.Omega.{arith}
 use Rattle.spec.specs.Outcome.{_&&_}
-use Rattle.spec.specs.Layout.{Zone, Map, shaped, closed, ofKind}
+use Rattle.spec.specs.Layout.{Map, ofKind}
 use Rattle.adjacency.specs.Rows.{Shows}
-use Rattle.kinds.specs.Tests.{shapeTest, closedTest, stackTest, testOf, kindTest}
+use Rattle.kinds.specs.Tests.{shapeTest, stackTest, testOf, kindTest}
 use Rattle.kinds.specs.Shape.{part, shape-is}
 use Rattle.kinds.specs.Closed.{Stack, closed-is}
 

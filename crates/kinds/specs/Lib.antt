@@ -1,5 +1,6 @@
 pub mod Tests
 pub mod Links
+pub mod Words
 pub mod Shape
 pub mod Closed
 pub mod Kind

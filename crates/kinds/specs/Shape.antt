@@ -1,14 +1,15 @@
 -- The shape test is the definition's.
-use Prim.Native.Nat.{ℕ, zero, suc, _+_, _-_, _≤_, _<_, min, max}
-use mathlib.Core.Path.{_≡_, refl, ap, ap₂, sym, _∙_}
+use Prim.Native.Nat.{ℕ, _+_, _-_, _≤_, _<_, min, max}
+use mathlib.Core.Path.{_≡_, ap, ap₂, sym, _∙_}
 use mathlib.Core.Bool.{Bool}
 use mathlib.Core.List.{List}
 use lib.ListN.{length, getD, take, drop, length-drop}
 use lib.Seq.{getD-take, getD-drop, length-take-le}
+use native.Mathlib.Nat.{min-comm, max-comm}
 use native.Mathlib.Omega.{arith}
 use Rattle.spec.specs.Outcome.{below}
-use Rattle.spec.specs.Layout.{Edge, Zone, Map, hasEdge, joined, linked, sameBool, shaped}
-use Rattle.adjacency.specs.Rows.{bitAt, Shows, shows-joined}
+use Rattle.spec.specs.Layout.{Map, hasEdge, joined, linked, sameBool, shaped}
+use Rattle.adjacency.specs.Rows.{Shows, shows-joined}
 use Rattle.kinds.specs.Tests.{pairTest, rowTest, shapeTest, below-same}
 
 -- the vertices of a zone in the listing
@@ -37,5 +38,6 @@ module _ (listed : List ℕ) (first size : ℕ) (inside : first + size ≤ lengt
       row x j = below (pair x j) j
 
       one : (i j : ℕ) → i < size → j < size → pairTest rows listed first kind size j i ≡ pair size j i
-      one i j p q = ap (λ (b : Bool). sameBool b (linked kind size i j)) (shows-joined rows (m .edges) s (getD listed (first + i) 0) (getD listed (first + j) 0)
+      one i j p q = ap (λ (b : Bool). sameBool b (linked kind size i j)) (shows-joined rows (m .edges) s (getD listed (first + j) 0) (getD listed (first + i) 0)
+          ∙ ap₂ (hasEdge (m .edges)) (min-comm (getD listed (first + j) 0) (getD listed (first + i) 0)) (max-comm (getD listed (first + j) 0) (getD listed (first + i) 0))
           ∙ ap₂ (λ (x y : ℕ). hasEdge (m .edges) (min x y) (max x y)) (sym (part-at i p)) (sym (part-at j q)))

@@ -1,5 +1,5 @@
 -- The kind tests as the code makes them, on the rows and the vertices of all zones one after the other.
-use Prim.Native.Nat.{ℕ, zero, suc, _+_, _-_, _≤_, _<_}
+use Prim.Native.Nat.{ℕ, zero, suc, _+_, _-_, _<_}
 use mathlib.Core.Path.{_≡_, refl, ap, ap₂, sym}
 use mathlib.Core.Bool.{Bool, true, false, not}
 use mathlib.Core.List.{List}
@@ -12,7 +12,7 @@ use Rattle.adjacency.specs.Rows.{bitAt}
 
 -- places i and j are joined as the kind has it
 abbrev pub pairTest : List (List ℕ) → List ℕ → ℕ → ℕ → ℕ → ℕ → ℕ → Bool
-pairTest rows listed first kind size j i = sameBool (bitAt rows (getD listed (first + i) 0) (getD listed (first + j) 0)) (linked kind size i j)
+pairTest rows listed first kind size j i = sameBool (bitAt rows (getD listed (first + j) 0) (getD listed (first + i) 0)) (linked kind size i j)
 
 abbrev pub rowTest : List (List ℕ) → List ℕ → ℕ → ℕ → ℕ → ℕ → Bool
 rowTest rows listed first kind size j = below (pairTest rows listed first kind size j) j

@@ -1,8 +1,9 @@
 // Whether a zone is of its kind (document 01, "Zones and configurations"), tested on the rows of the adjacency.
 ghost use mathlib.Core.Path.{_≡_};
 ghost use Prim.Native.Nat.{ℕ, _+_, _-_, _<_, _≤_};
-ghost use lib.ListN.{length, getD};
 ghost use Rattle.spec.specs.Layout.{linked, sameBool};
+ghost use mathlib.Core.List.{List};
+ghost use Rattle.kinds.specs.Words.{outFrom};
 ghost use Rattle.kinds.specs.Tests.{rowTest, shapeTest, innerTest, closedTest, stackTest, kindTest};
 
 // Are places i < j of a zone joined inside it, by its kind?
@@ -48,7 +49,7 @@ fn row_ok(
     while 0 < i {
         i -= 1;
         let u = listed[first + i];
-        let h = adjacency::joined(rows, numbering::Vertex(u), numbering::Vertex(v));
+        let h = adjacency::joined(rows, numbering::Vertex(v), numbering::Vertex(u));
         let l = links(kind, size, i, j);
         if !same(h, l) {
             return false;
@@ -72,21 +73,39 @@ fn shape_ok(rows: &[[u64; 2]; 128], listed: &[u8; 128], first: usize, kind: u8, 
     true
 }
 
-// Does no edge lead from vertex v out of zone z?
-fn inner_ok(rows: &[[u64; 2]; 128], zone: &[u8; 128], z: u8, v: u8) -> bool
-    ensures { λ r. ⌜ r ≡ innerTest (now (rows .entry)) (now (zone .entry)) z v ⌝ }
+// The word of 64 vertices: bit i says that vertex from + i is not in zone z.
+fn outside(zone: &[u8; 128], z: u8, from: usize) -> u64
+    requires { ⌜ from ≤ 64 ⌝ }
+    ensures { λ r. ⌜ r ≡ outFrom (now (zone .entry)) z from 64 ⌝ }
 {
-    let mut u: usize = 128;
-    while 0 < u {
-        u -= 1;
-        let w = zone[u];
-        if w != z {
-            if adjacency::joined(rows, numbering::Vertex(v), numbering::Vertex(u as u8)) {
-                return false;
-            }
+    let mut word: u64 = 0;
+    let mut i: usize = 64;
+    while 0 < i {
+        i -= 1;
+        let y = zone[from + i];
+        if y == z {
+            word = word * 2;
+        } else {
+            word = word * 2 + 1;
         }
     }
-    true
+    word
+}
+
+// Does no edge lead from vertex v to a vertex of the two words?
+fn inner_ok(rows: &[[u64; 2]; 128], low: u64, high: u64, v: u8) -> bool
+    ensures { λ r. ⌜ ((zone : List ℕ) (z : ℕ) → low ≡ outFrom zone z 0 64 → high ≡ outFrom zone z 64 64 → r ≡ innerTest (now (rows .entry)) zone z v) ⌝ }
+{
+    let i = v as usize;
+    if i >= 128 {
+        return true;
+    }
+    let a = rows[i][0] & low;
+    if a != 0 {
+        return false;
+    }
+    let b = rows[i][1] & high;
+    b == 0
 }
 
 // Does no edge lead out of the zone but from its first vertex?
@@ -101,11 +120,13 @@ fn closed_ok(
     requires { ⌜ first + size ≤ 128 ⌝ }
     ensures { λ r. ⌜ r ≡ closedTest (now (rows .entry)) (now (listed .entry)) (now (zone .entry)) z first size ⌝ }
 {
+    let low = outside(zone, z, 0);
+    let high = outside(zone, z, 64);
     let mut i = size;
     while 1 < i {
         i -= 1;
         let v = listed[first + i];
-        if !inner_ok(rows, zone, z, v) {
+        if !inner_ok(rows, low, high, v) {
             return false;
         }
     }

@@ -1,11 +1,11 @@
 -- What callers have of a map that was read: its rows, its tables and its zones are those of the definition's map.
-use Prim.Native.Nat.{ℕ, _+_, _≤_, _<_, min, max}
-use mathlib.Core.Path.{_≡_, refl, ap, sym, _∙_}
-use mathlib.Core.Bool.{Bool, true}
+use Prim.Native.Nat.{ℕ, _+_, _≤_, _<_}
+use mathlib.Core.Path.{_≡_, ap, sym, _∙_}
+use mathlib.Core.Bool.{true}
 use mathlib.Core.List.{List}
-use lib.ListN.{length, getD, take, drop}
+use lib.ListN.{length, getD}
 use native.Mathlib.Omega.{arith}
-use Rattle.spec.specs.Outcome.{Outcome, ok, _>>=_, indexOf}
+use Rattle.spec.specs.Outcome.{Outcome, ok, indexOf}
 use Rattle.spec.specs.Wire.{payloadOf}
 use Rattle.spec.specs.Layout.{Map, mapOf, joined, zoneOf, zoneAt}
 use Rattle.theory.specs.Basics.Outcomes.{bound}

@@ -1,14 +1,12 @@
 -- The bytes of a payload as they are read from the file, and a field read from them.
-use Prim.Native.Nat.{ℕ, zero, suc, _+_, _-_, _*_, _/_, _%_, _≤_, _<_}
+use Prim.Native.Nat.{ℕ, zero, suc, _+_, _-_, _*_, _/_, _≤_, _<_}
 use mathlib.Core.Path.{_≡_, refl, ap, sym, _∙_}
 use mathlib.Core.List.{List, [], _∷_}
 use lib.ListN.{length, getD, take}
 use lib.Seq.{ext-getD}
-use lib.Dec.{ltb}
 use borrow.Author.Tests.{lt-ltb, le-ltb}
-use native.Mathlib.Numerals.{add-one}
 use native.Mathlib.Omega.{arith}
-use Rattle.spec.specs.Outcome.{Outcome, ok, refuse}
+use Rattle.spec.specs.Outcome.{ok, refuse}
 use Rattle.spec.specs.Wire.{word}
 use Rattle.spec.specs.Layout.{byteAt, wordAt}
 use Rattle.wire.specs.Payload.{payload, placeOf, held-length, held-byte}

@@ -1,17 +1,17 @@
 -- The edges of a map, read into the rows.
 use Prim.Native.Nat.{ℕ, zero, suc, _+_, _-_, _*_, _≤_, _<_}
 use mathlib.Core.Path.{_≡_, refl, ap, ap₂, sym, _∙_}
-use mathlib.Core.Bool.{Bool, true, false}
+use mathlib.Core.Bool.{true, false}
 use mathlib.Core.List.{List, [], _∷_, _++_}
 use lib.ListN.{length, getD}
 use lib.Dec.{eqb, ltb, leb}
 use borrow.Author.Tests.{lt-ltb, le-ltb, le-leb, lt-leb, eq-eqb, ne-eqb}
 use native.Mathlib.Numerals.{add-one}
 use native.Mathlib.Omega.{arith}
-use Rattle.spec.specs.Outcome.{Outcome, ok, refuse, _>>=_, _>>_, check, _&&_}
+use Rattle.spec.specs.Outcome.{ok, refuse, _>>=_, _>>_, check, _&&_}
 use Rattle.spec.specs.Layout.{Edge, readEdges, edgesOf}
 use Rattle.wire.specs.Payload.{placeOf, wordAt}
-use Rattle.adjacency.specs.Rows.{join, joinAll, rows-snoc, Shows, shows-more, Proper, both}
+use Rattle.adjacency.specs.Rows.{join, joinAll, rows-snoc, Shows, shows-more, both}
 use Rattle.layout.specs.declared.MapFault.{MapFault}
 use Rattle.layout.specs.declared.MapFault.the-variants.{None, Short}
 use Rattle.layout.specs.Fault.{answered, soundOf, not-both, given, handed, relayed}

@@ -1,20 +1,19 @@
 -- The counts of a map, and a zone's head, read step by step.
-use Prim.Native.Nat.{ℕ, zero, suc, _+_, _-_, _*_, _/_, _%_, _≤_, _<_}
-use mathlib.Core.Path.{_≡_, refl, ap, sym, _∙_}
+use Prim.Native.Nat.{ℕ, zero, suc, _+_, _-_, _≤_, _<_}
+use mathlib.Core.Path.{_≡_, refl, ap, sym}
 use mathlib.Core.Bool.{Bool, true, false}
 use mathlib.Core.List.{List}
-use lib.ListN.{length, getD}
+use lib.ListN.{getD}
 use lib.Dec.{eqb, leb, leb→le}
-use borrow.Author.Tests.{le-leb, lt-leb, leb-true, leb-false}
+use borrow.Author.Tests.{le-leb, lt-leb}
 use native.Mathlib.Omega.{arith}
-use Rattle.spec.specs.Outcome.{Outcome, ok, refuse, _>>=_, _>>_, check, _&&_}
+use Rattle.spec.specs.Outcome.{ok, refuse, _>>=_, _>>_, check, _&&_}
 use Rattle.spec.specs.Layout.{Head, Counts, readHead, countsOf, leastSize}
 use Rattle.theory.specs.Basics.Tests.{and-right}
 use Rattle.theory.specs.Basics.Outcomes.{ok-injective, passed, bound}
 use Rattle.wire.specs.Payload.{placeOf}
 use Rattle.layout.specs.declared.HeadRead.{HeadRead}
 use Rattle.layout.specs.declared.CountsRead.{CountsRead}
-use Rattle.layout.specs.Fault.{not-both}
 use Rattle.layout.specs.Bytes.{held, no-byte, a-byte}
 
 abbrev pub headIn : HeadRead → Head

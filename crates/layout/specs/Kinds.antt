@@ -1,20 +1,25 @@
 -- Every zone is tested for its kind, lowest first; what the tests lean on follows from what was read.
-use Prim.Native.Nat.{ℕ, zero, suc, _+_, _-_, _*_, _≤_, _<_}
-use mathlib.Core.Path.{_≡_, refl, ap, ap₂, sym, _∙_}
+use Prim.Native.Nat.{ℕ, zero, suc, _+_, _-_, _≤_, _<_}
+use mathlib.Core.Path.{_≡_, refl, ap, sym, _∙_}
 use mathlib.Core.Bool.{Bool, true, false}
-use mathlib.Core.List.{List, [], _∷_, _++_}
-use lib.ListN.{length, getD, take, drop}
+use mathlib.Core.List.{List, [], _∷_}
+use lib.ListN.{length, getD, drop}
 use lib.Seq.{drop-cons, drop-length}
-use lib.Dec.{T, eqb}
+use lib.Dec.{eqb}
 use borrow.Author.Tests.{eq-eqb, eqb-true}
 use native.Mathlib.Numerals.{add-one}
 use native.Mathlib.Omega.{arith}
-use Rattle.spec.specs.Outcome.{Outcome, ok, refuse, _>>=_, _>>_, check, member, indexOf}
-use Rattle.spec.specs.Layout.{Map, Zone, Edge, Read, readZones, readEdges, hasEdge, leastSize, ofKind, kindsFrom, zoneFrom}
-use Rattle.theory.specs.Basics.Tests.{of-true, true-of}
+use Rattle.spec.specs.Outcome.{ok, refuse, _>>_, check, member, indexOf}
+use Rattle.spec.specs.Layout.{Map, Zone, Edge, readZones, readEdges, leastSize, ofKind, kindsFrom, zoneFrom}
+use Rattle.theory.specs.Basics.Tests.{of-true}
 use Rattle.theory.specs.Basics.Lists.{getD-default}
+<<<<<<< HEAD
 use Rattle.theory.specs.Maps.Layout as accepted
 use Rattle.theory.specs.Maps.Listing as listing
+=======
+use Rattle.theory.specs.Maps.Layout as listing
+use Rattle.theory.specs.Maps.Layout.{no-edge, read-edges, has-edge}
+>>>>>>> dc513f723ca9e3bc2485e5d7e50354a912cb122d
 use Rattle.adjacency.specs.Rows.{Shows, same-test}
 use Rattle.kinds.specs.Tests.{kindTest}
 use Rattle.kinds.specs.Shape.{part, part-length}
@@ -132,7 +137,7 @@ module _ (p : List ℕ) (n c : ℕ) (small : n ≤ 128) (few : c ≤ 64) (h : He
     long = held .long-listed;
     kinds = kind-range;
     stacks = λ j low. record {
-      proper = λ a b t. let q = accepted.has-edge (accepted.read-edges n p e from 0 [] es accepted.no-edge w) a b (of-true t) in (q .0, omega arith);
+      proper = λ a b t. let q = has-edge (read-edges n p e from 0 [] es no-edge w) a b (of-true t) in (q .0, omega arith);
       inside = listed-in j low;
       once = λ i g b t. once· j low i g b t;
       small = λ i b. let q = listing.fresh-lt (fresh j low .1) i b in omega arith;

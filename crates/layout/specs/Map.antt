@@ -1,15 +1,13 @@
 -- The whole map: what was read is the map that the definition gives.
-use Prim.Native.Nat.{ℕ, zero, suc, _+_, _-_, _*_, _/_, _≤_, _<_}
-use mathlib.Core.Path.{_≡_, refl, ap, ap₂, sym, _∙_, subst}
+use Prim.Native.Nat.{ℕ, _+_, _-_, _*_, _/_, _≤_, _<_}
+use mathlib.Core.Path.{_≡_, refl, ap, sym, _∙_, subst}
 use mathlib.Core.Bool.{Bool, true, false}
-use mathlib.Core.List.{List, [], _∷_, _++_}
+use mathlib.Core.List.{List, []}
 use lib.ListN.{length, getD, take, drop, replicate}
-use lib.Dec.{ltb}
-use borrow.Author.Tests.{lt-ltb, le-ltb}
 use native.Mathlib.Omega.{arith}
-use Rattle.spec.specs.Outcome.{Outcome, ok, refuse, _>>=_, _>>_, member, indexOf}
+use Rattle.spec.specs.Outcome.{Outcome, ok, refuse, _>>=_, _>>_, indexOf}
 use Rattle.spec.specs.Wire.{payloadOf}
-use Rattle.spec.specs.Layout.{Map, Zone, Edge, Read, Counts, countsOf, zonesOf, readZones, edgesOf, readEdges, kindsFrom, mapOf, zoneFrom, zoneOf, zoneAt}
+use Rattle.spec.specs.Layout.{Map, Edge, countsOf, zonesOf, edgesOf, kindsFrom, mapOf, zoneFrom, zoneOf, zoneAt}
 use Rattle.theory.specs.Basics.Lists.{getD-uniform}
 use Rattle.wire.specs.declared.Checked.{Checked}
 use Rattle.wire.specs.declared.Checked.the-variants.{Payload}
@@ -24,7 +22,7 @@ use Rattle.layout.specs.declared.MapRead.{MapRead}
 use Rattle.layout.specs.Fault.{answered, soundOf, sound-none, not-both, given, refused, handed, relayed, handed-on, relayed-on}
 use Rattle.layout.specs.Bytes.{held, held-payload}
 use Rattle.layout.specs.Heads.{countsIn}
-use Rattle.layout.specs.Zones.{Heads, ZonesHeld, ZonesFound, headsOf, headsAt, zoneIn, zonesIn, zonesRead, noZone, zones-length, zones-at, placeFrom}
+use Rattle.layout.specs.Zones.{ZonesFound, headsOf, zonesIn, zonesRead, zones-length, zones-at, placeFrom}
 use Rattle.layout.specs.Edges.{edgesAt, EdgesFound}
 use Rattle.layout.specs.Kinds.{Ready, ready, zone-some}
 

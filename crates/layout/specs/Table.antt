@@ -1,15 +1,15 @@
 -- The vertices of the zones as they are read: the listing, and the zone and place of each vertex.
-use Prim.Native.Nat.{ℕ, zero, suc, _+_, _-_, _*_, _≤_, _<_}
+use Prim.Native.Nat.{ℕ, zero, suc, _+_, _-_, _≤_, _<_}
 use mathlib.Core.Path.{_≡_, refl, ap, ap₂, sym, _∙_}
 use mathlib.Core.Bool.{Bool, true, false, not}
 use mathlib.Core.List.{List, [], _∷_, _++_}
-use lib.ListN.{length, getD, take, drop, set, replicate, length-set, length-drop, length-append}
-use lib.Seq.{take-suc-set, take-set-le, drop-set-add, getD-set-same, getD-set-other, length-take-le, take-add}
+use lib.ListN.{length, getD, take, drop, set, replicate, length-set, length-drop}
+use lib.Seq.{take-suc-set, take-set-le, drop-set-add, getD-set-same, getD-set-other, length-take-le}
 use lib.Dec.{eqb, ltb}
 use borrow.Author.Tests.{lt-ltb, le-ltb, eq-eqb, ne-eqb, eqb-true, eqb-false}
 use native.Mathlib.Numerals.{add-one}
 use native.Mathlib.Omega.{arith}
-use Rattle.spec.specs.Outcome.{Outcome, ok, refuse, _>>=_, _>>_, check, _&&_, member, indexOf}
+use Rattle.spec.specs.Outcome.{ok, refuse, _>>=_, _>>_, check, _&&_, member, indexOf}
 use Rattle.spec.specs.Layout.{readVertices}
 use Rattle.theory.specs.Basics.Lists.{getD-default, getD-uniform}
 use Rattle.wire.specs.Payload.{placeOf}

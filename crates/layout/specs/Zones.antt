@@ -1,16 +1,16 @@
 -- All zones: what the arrays hold of them while they are read.
-use Prim.Native.Nat.{ℕ, zero, suc, _+_, _-_, _*_, _≤_, _<_}
+use Prim.Native.Nat.{ℕ, zero, suc, _+_, _-_, _≤_, _<_}
 use mathlib.Core.Path.{_≡_, refl, ap, ap₂, sym, _∙_}
-use mathlib.Core.Logic.{_⊎_, inl, inr, ⊎-elim}
+use mathlib.Core.Logic.{_⊎_, inl, inr}
 use mathlib.Core.Bool.{Bool, true, false, not}
 use mathlib.Core.List.{List, [], _∷_, _++_, append-assoc, append-nil}
-use lib.ListN.{length, getD, take, drop, set, replicate, length-set, length-append, length-drop, List·getD-append, List·getD-eq-default}
-use lib.Seq.{take-take, take-add, getD-set-same, getD-set-other, drop-at, length-take-le, getD-at}
+use lib.ListN.{length, getD, take, drop, set, replicate, length-set, length-append, List·getD-append, List·getD-eq-default}
+use lib.Seq.{take-take, take-add, getD-set-same, getD-set-other, drop-at, getD-at}
 use lib.Dec.{eqb}
 use borrow.Author.Tests.{eqb-true, eqb-false}
 use native.Mathlib.Numerals.{add-one}
 use native.Mathlib.Omega.{arith}
-use Rattle.spec.specs.Outcome.{Outcome, ok, refuse, _>>=_, _>>_, check, _&&_, member, indexOf, below}
+use Rattle.spec.specs.Outcome.{ok, _>>=_, _>>_, check, member, indexOf, below}
 use Rattle.spec.specs.Layout.{Zone, Read, Head, readHead, readVertices, readZones, zonesOf, listed, zoneFrom}
 use Rattle.theory.specs.Basics.Lists.{getD-uniform, getD-default}
 use Rattle.kinds.specs.Tests.{below-same}

@@ -2,7 +2,30 @@
 use crate::MapFault;
 ghost use mathlib.Core.Path.{_≡_};
 ghost use Prim.Native.Nat.{ℕ, _+_, _*_, _<_, _≤_};
+ghost use lib.ListN.{getD};
+ghost use Rattle.wire.specs.Payload.{placeOf};
 ghost use Rattle.layout.specs.Edges.{EdgesAre, EdgesFound};
+
+// Byte `at` of the file; 0 past its end.
+fn byte_at(file: &[u8], at: usize) -> u8
+    ensures { λ r. ⌜ r ≡ getD (now (file .entry)) at 0 ⌝ }
+{
+    if at < file.len() {
+        return file[at];
+    }
+    0
+}
+
+// Where the next payload byte stands: a block's last is its byte 509, and the next block's first is its byte 6.
+fn next_place(at: usize) -> usize
+    requires { ⌜ at ≤ 1000000 ⌝ }
+    ensures { λ r. ⌜ ((off : ℕ) → at ≡ placeOf off → r ≡ placeOf (off + 1)) ⌝ }
+{
+    if at % 512 == 509 {
+        return at + 9;
+    }
+    at + 1
+}
 
 // Reads e edges from offset `from` on.
 fn read_edges(
@@ -16,6 +39,7 @@ fn read_edges(
     requires { ⌜ (n ≤ 128) × (e ≤ 2048) × (from ≤ 65536) ⌝ }
     ensures { λ r. ⌜ EdgesAre (now (file .entry)) m n e from (now (rows .entry)) (now (rows .exit)) r ⌝ }
 {
+    let mut at = from / 504 * 512 + 6 + from % 504;
     let mut k: usize = 0;
     let mut least: usize = 0;
     while k < e {
@@ -27,8 +51,9 @@ fn read_edges(
         if q >= m {
             return MapFault::Short(q);
         }
-        let a = wire::payload_byte(file, o);
-        let b = wire::payload_byte(file, q);
+        let a = byte_at(file, at);
+        let behind = next_place(at);
+        let b = byte_at(file, behind);
         if b <= a {
             return MapFault::Edge(o);
         }
@@ -40,6 +65,7 @@ fn read_edges(
             return MapFault::Edge(o);
         }
         adjacency::add_edge(rows, numbering::Vertex(a), numbering::Vertex(b));
+        at = next_place(behind);
         least = key + 1;
         k += 1;
     }

@@ -3,7 +3,7 @@ use crate::CountsRead;
 use crate::HeadRead;
 use crate::MapFault;
 ghost use mathlib.Core.Path.{_≡_};
-ghost use Prim.Native.Nat.{ℕ, _+_, _<_, _≤_};
+ghost use Prim.Native.Nat.{_+_, _<_, _≤_};
 ghost use lib.Dec.{leb};
 ghost use Rattle.spec.specs.Outcome.{_&&_};
 ghost use Rattle.spec.specs.Layout.{readHead, countsOf};

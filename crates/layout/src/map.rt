@@ -4,7 +4,7 @@ use crate::MapRead;
 use crate::ZonesRead;
 ghost use mathlib.Core.Path.{_≡_};
 ghost use mathlib.Core.Bool.{true};
-ghost use Prim.Native.Nat.{ℕ, _+_, _*_, _<_, _≤_};
+ghost use Prim.Native.Nat.{_+_, _<_, _≤_};
 ghost use Rattle.spec.specs.Layout.{Map, kindsFrom, mapOf};
 ghost use Rattle.adjacency.specs.Rows.{blank};
 ghost use Rattle.layout.specs.Fault.{answered, soundOf};

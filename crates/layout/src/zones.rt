@@ -3,12 +3,12 @@ use crate::MapFault;
 use crate::ZonesRead;
 ghost use mathlib.Core.Path.{_≡_};
 ghost use mathlib.Core.Bool.{not};
-ghost use Prim.Native.Nat.{ℕ, _+_, _<_, _≤_};
-ghost use lib.ListN.{length, getD};
+ghost use Prim.Native.Nat.{_+_, _<_, _≤_};
+ghost use lib.ListN.{getD};
 ghost use lib.Dec.{eqb};
 ghost use Rattle.spec.specs.Outcome.{below};
 ghost use Rattle.layout.specs.Bytes.{held};
-ghost use Rattle.layout.specs.Table.{Table, Rep};
+ghost use Rattle.layout.specs.Table.{Rep};
 ghost use Rattle.layout.specs.Zones.{VerticesAre, ZonesAre, ZonesFound, tableOf};
 
 // Reads the `size` vertices of zone z from offset `from` on, behind the `used` that are listed.

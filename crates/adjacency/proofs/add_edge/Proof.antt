@@ -1,15 +1,11 @@
 use native.Mathlib.Omega.{arith}
-use Prim.Native.Nat.{ℕ, _+_, _-_, _*_, _/_, _%_, _≤_, _<_}
-use mathlib.Core.Path.{_≡_, refl, ap, sym, _∙_}
-use mathlib.Core.List.{List, []}
-use lib.ListN.{length, getD, take, drop, set, length-set}
+use Prim.Native.Nat.{ℕ, _-_, _/_}
+use mathlib.Core.Path.{ap, sym, _∙_}
+use mathlib.Core.List.{List}
 use Rattle.adjacency.specs.Rows.{putBit, join-out, join-out-2, join-is}
 use borrow.Author.Needs.{needs}
 use Rattle.adjacency.proofs.add_edge.Statement.{statement}
 use Rattle.adjacency.proofs.add_edge.Tie as tie
-use Rattle.adjacency.proofs.add_edge.Reads as reads
-use Rattle.adjacency.proofs.add_edge.Lts as lts
-use Rattle.adjacency.proofs.put.Reads as put-reads
 
 -- src/lib.rt:38:13
 cast-a : tie.Need-cast-a

@@ -1,14 +1,8 @@
-use native.Mathlib.Omega.{arith}
-use Prim.Native.Nat.{ℕ, _+_, _-_, _*_, _/_, _%_, _≤_, _<_}
-use mathlib.Core.Path.{_≡_, refl, ap, sym, _∙_}
-use mathlib.Core.List.{List, []}
-use lib.ListN.{length, getD, take, drop, set, length-set}
+use Prim.Native.Nat.{_-_, _/_}
 use Rattle.adjacency.specs.Rows.{bit-out, bit-out-2, bit-in}
 use borrow.Author.Needs.{needs}
 use Rattle.adjacency.proofs.joined.Statement.{statement}
 use Rattle.adjacency.proofs.joined.Tie as tie
-use Rattle.adjacency.proofs.joined.Reads as reads
-use Rattle.adjacency.proofs.joined.Lts as lts
 
 -- src/lib.rt:11:13
 cast-a : tie.Need-cast-a

@@ -1,9 +1,8 @@
 use native.Mathlib.Omega.{arith}
-use Prim.Native.Nat.{ℕ, _+_, _-_, _*_, _/_, _%_, _≤_, _<_}
-use mathlib.Core.Path.{_≡_, refl, ap, sym, _∙_}
-use mathlib.Core.List.{List, []}
-use lib.ListN.{length, getD, take, drop, set, length-set}
-use Rattle.adjacency.specs.Rows.{putBit, join-out, join-out-2, join-is}
+use Prim.Native.Nat.{ℕ, _-_, _/_, _%_, _<_}
+use mathlib.Core.Path.{ap, _∙_}
+use mathlib.Core.List.{[]}
+use lib.ListN.{getD, set}
 use lib.Bits.{bitOr}
 use lib.Pow.{shl-exact}
 use lib.Dec.{lit<}
@@ -11,8 +10,6 @@ use native.Mathlib.Nat.{one-mul}
 use borrow.Author.Needs.{needs}
 use Rattle.adjacency.proofs.put.Statement.{statement}
 use Rattle.adjacency.proofs.put.Tie as tie
-use Rattle.adjacency.proofs.put.Reads as reads
-use Rattle.adjacency.proofs.put.Lts as lts
 
 -- src/lib.rt:29:16
 mul-word : tie.Need-mul-word

@@ -1,90 +1,49 @@
 use borrow.Author.Needs.{needs}
-use native.Mathlib.Omega.{arith}
-use Prim.Native.Nat.{ℕ, _+_, _-_, _*_, _/_, _%_, _≤_, _<_}
-use mathlib.Core.Path.{_≡_, refl, ap, ap₂, sym, _∙_}
-use mathlib.Core.Bool.{Bool, true, false}
-use lib.ListN.{length, getD, take, drop, set}
-use Rattle.spec.specs.Outcome.{below, _||_}
-use borrow.Author.Tests.{eq-eqb, ne-eqb}
-use Rattle.kinds.specs.Tests.{staysTest, below-more, below-not}
+use Prim.Native.Nat.{ℕ, _-_}
+use mathlib.Core.Path.{ap, sym, _∙_}
+use lib.ListN.{getD}
+use mathlib.Core.List.{[]}
+use lib.Bits.{bitAnd}
+use lib.Dec.{eqb}
+use Rattle.kinds.specs.Words.{inner-out, inner-first, inner-second}
 use Rattle.kinds.proofs.inner_ok.Statement.{statement}
 use Rattle.kinds.proofs.inner_ok.Tie as tie
-use Rattle.kinds.proofs.inner_ok.Reads as reads
-use Rattle.kinds.proofs.inner_ok.Lts as lts
-use Rattle.adjacency.proofs.joined.Reads as joined-reads
 
-abbrev Inv-loop : tie.InvT-loop
-Inv-loop rows zone z v u₀ u = (u ≤ 128) × (below (staysTest rows zone z v) u ≡ below (staysTest rows zone z v) 128)
+returns : tie.Need-returns
+returns c = λ zone z l h.
+    let a = c .before .args in
+    inner-out (a .rows .now) zone z (a .v) (c .if1 .taken)
 
-abbrev μ-loop : tie.MeasureT-loop
-μ-loop rows zone z v u₀ u = u
+mul-a : tie.Need-mul-a
+mul-a c = search needs
 
-loop-holds : tie.Need-loop-holds Inv-loop μ-loop
-loop-holds c = (search needs, refl)
+index-1-a : tie.Need-index-1-a
+index-1-a c = search needs
 
-sub-u : tie.Need-sub-u Inv-loop μ-loop
-sub-u c = search needs
+index-2-a : tie.Need-index-2-a
+index-2-a c = search needs
 
-element-copy-out-w : tie.Need-element-copy-out-w Inv-loop μ-loop
-element-copy-out-w c = search needs
+returns-2 : tie.Need-returns-2
+returns-2 c = λ zone z l h.
+    let a = c .before .before .before .args in
+    inner-first (a .rows .now) zone z (a .v) (c .before .before .if1 .left) (λ e. c .if2 .taken (ap (bitAnd (getD (getD (a .rows .now) (a .v) []) 0 0)) l ∙ e))
 
-cast-t13 : tie.Need-cast-t13 Inv-loop μ-loop
-cast-t13 c = search needs
+mul-b : tie.Need-mul-b
+mul-b c = search needs
 
-joined-requires : tie.Need-joined-requires Inv-loop μ-loop
-joined-requires c κs = search needs
+index-1-b : tie.Need-index-1-b
+index-1-b c = search needs
 
-returns : tie.Need-returns Inv-loop μ-loop
-unfolding _||_
-returns c =
-    let a = c .before .before .before .before .before .before .args in
-    let o = c .before .before .before .before .before .loop in
-    let e : (staysTest (a .rows .now) (a .zone .now) (a .z) (a .v)) (o .u - 1) ≡ false = rw (ne-eqb _ _ (c .before .before .if1 .taken), ← c .before .joined .ensures, c .if2 .taken) in
-    sym (below-not (staysTest (a .rows .now) (a .zone .now) (a .z) (a .v)) (o .u) (omega arith) e) ∙ o .inv .1
+index-2-b : tie.Need-index-2-b
+index-2-b c = search needs
 
-loop-less : tie.Need-loop-less Inv-loop μ-loop
-loop-less c = search needs
-
-loop-again : tie.Need-loop-again Inv-loop μ-loop
-unfolding _||_
-loop-again c =
-    let a = c .before .before .before .before .before .before .args in
-    let o = c .before .before .before .before .before .loop in
-    let e : (staysTest (a .rows .now) (a .zone .now) (a .z) (a .v)) (o .u - 1) ≡ true = rw (ne-eqb _ _ (c .before .before .if1 .taken), ← c .before .joined .ensures, c .if2 .left) in
-    (search needs, sym (below-more (staysTest (a .rows .now) (a .zone .now) (a .z) (a .v)) (o .u) (omega arith) e) ∙ o .inv .1)
-
-loop-less-2 : tie.Need-loop-less-2 Inv-loop μ-loop
-loop-less-2 c = search needs
-
-loop-again-2 : tie.Need-loop-again-2 Inv-loop μ-loop
-unfolding _||_
-loop-again-2 c =
+returns-3 : tie.Need-returns-3
+returns-3 c = λ zone z l h.
     let a = c .before .before .before .before .args in
-    let o = c .before .before .before .loop in
-    let e : (staysTest (a .rows .now) (a .zone .now) (a .z) (a .v)) (o .u - 1) ≡ true = rw (eq-eqb _ _ (c .if1 .left)) in
-    (search needs, sym (below-more (staysTest (a .rows .now) (a .zone .now) (a .z) (a .v)) (o .u) (omega arith) e) ∙ o .inv .1)
-
-returns-2 : tie.Need-returns-2 Inv-loop μ-loop
-unfolding below
-returns-2 c =
-    let a = c .before .before .args in
-    let e : c .before .loop .u ≡ 0 = omega arith in
-    sym (ap (below (staysTest (a .rows .now) (a .zone .now) (a .z) (a .v))) e) ∙ c .before .loop .inv .1
+    ap (λ (w : ℕ). eqb (bitAnd (getD (getD (a .rows .now) (a .v) []) 1 0) w) 0) h
+    ∙ inner-second (a .rows .now) zone z (a .v) (c .before .before .before .if1 .left) (sym (ap (bitAnd (getD (getD (a .rows .now) (a .v) []) 0 0)) l) ∙ c .before .if2 .left)
 
 pub inner-ok-spec : {M : Type 1} → statement M
 inner-ok-spec =
     tie.close
-    (tie.spec
-    Inv-loop
-    μ-loop
-    loop-holds
-    sub-u
-    element-copy-out-w
-    cast-t13
-    joined-requires
-    returns
-    loop-less
-    loop-again
-    loop-less-2
-    loop-again-2
-    returns-2)
+    (tie.spec returns mul-a index-1-a index-2-a returns-2 mul-b index-1-b index-2-b returns-3)

@@ -1,13 +1,8 @@
-use native.Mathlib.Omega.{arith}
-use Prim.Native.Nat.{ℕ, _+_, _-_, _*_, _/_, _%_, _≤_, _<_}
-use mathlib.Core.Path.{_≡_, refl, ap, ap₂, sym, _∙_}
-use lib.ListN.{length, getD}
+use Prim.Native.Nat.{_-_, _/_}
 use Rattle.kinds.specs.Links.{links-any, links-next, links-line, links-round, links-inner}
 use borrow.Author.Needs.{needs}
 use Rattle.kinds.proofs.links.Statement.{statement}
 use Rattle.kinds.proofs.links.Tie as tie
-use Rattle.kinds.proofs.links.Reads as reads
-use Rattle.kinds.proofs.links.Lts as lts
 
 -- src/lib.rt:14:9
 returns : tie.Need-returns

@@ -1,16 +1,10 @@
 use borrow.Author.Needs.{needs}
 use native.Mathlib.Omega.{arith}
-use Prim.Native.Nat.{ℕ, _+_, _-_, _*_, _/_, _%_, _≤_, _<_}
-use mathlib.Core.Path.{_≡_, refl, ap, ap₂, sym, _∙_}
-use mathlib.Core.Bool.{Bool, true, false}
-use lib.ListN.{length, getD, take, drop, set}
+use Prim.Native.Nat.{_-_}
+use mathlib.Core.Path.{_∙_}
 use Rattle.kinds.specs.Kind.{kind-outside, kind-stack, kind-hall, kind-clique, kind-ring, kind-none}
 use Rattle.kinds.proofs.of_kind.Statement.{statement}
 use Rattle.kinds.proofs.of_kind.Tie as tie
-use Rattle.kinds.proofs.of_kind.Reads as reads
-use Rattle.kinds.proofs.of_kind.Lts as lts
-use Rattle.kinds.proofs.shape_ok.Reads as shape-ok-reads
-use Rattle.kinds.proofs.stack_ok.Reads as stack-ok-reads
 
 returns : tie.Need-returns
 returns c = kind-outside _ _ _ _ _ _ _ (omega arith)

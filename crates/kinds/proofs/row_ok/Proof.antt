@@ -1,19 +1,14 @@
 use borrow.Author.Needs.{needs}
 use native.Mathlib.Omega.{arith}
-use Prim.Native.Nat.{ℕ, _+_, _-_, _*_, _/_, _%_, _≤_, _<_}
+use Prim.Native.Nat.{_+_, _-_, _≤_}
 use mathlib.Core.Path.{_≡_, refl, ap, ap₂, sym, _∙_}
-use lib.ListN.{length, getD, take, drop, set}
+use lib.ListN.{getD}
 use borrow.Author.Tests.{not-true, not-false}
 use Rattle.spec.specs.Outcome.{below}
 use Rattle.spec.specs.Layout.{sameBool}
 use Rattle.kinds.specs.Tests.{pairTest, below-more, below-not}
 use Rattle.kinds.proofs.row_ok.Statement.{statement}
 use Rattle.kinds.proofs.row_ok.Tie as tie
-use Rattle.kinds.proofs.row_ok.Reads as reads
-use Rattle.kinds.proofs.row_ok.Lts as lts
-use Rattle.adjacency.proofs.joined.Reads as joined-reads
-use Rattle.kinds.proofs.links.Reads as links-reads
-use Rattle.kinds.proofs.same.Reads as same-reads
 
 abbrev Inv-loop : tie.InvT-loop
 Inv-loop rows listed first kind size j v i₀ i = (i ≤ j) × (v ≡ getD listed (first + j) 0) × (below (pairTest rows listed first kind size j) i ≡ below (pairTest rows listed first kind size j) j)

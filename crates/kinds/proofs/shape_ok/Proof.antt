@@ -1,17 +1,12 @@
 use borrow.Author.Needs.{needs}
 use native.Mathlib.Omega.{arith}
-use Prim.Native.Nat.{ℕ, _+_, _-_, _*_, _/_, _%_, _≤_, _<_}
-use mathlib.Core.Path.{_≡_, refl, ap, ap₂, sym, _∙_}
-use mathlib.Core.Bool.{Bool, true, false}
-use lib.ListN.{length, getD, take, drop, set}
+use Prim.Native.Nat.{_-_, _≤_}
+use mathlib.Core.Path.{_≡_, refl, ap, sym, _∙_}
 use borrow.Author.Tests.{not-true, not-false}
 use Rattle.spec.specs.Outcome.{below}
 use Rattle.kinds.specs.Tests.{rowTest, below-more, below-not}
 use Rattle.kinds.proofs.shape_ok.Statement.{statement}
 use Rattle.kinds.proofs.shape_ok.Tie as tie
-use Rattle.kinds.proofs.shape_ok.Reads as reads
-use Rattle.kinds.proofs.shape_ok.Lts as lts
-use Rattle.kinds.proofs.row_ok.Reads as row-ok-reads
 
 abbrev Inv-loop : tie.InvT-loop
 Inv-loop rows listed first kind size j₀ j = (j ≤ size) × (below (rowTest rows listed first kind size) j ≡ below (rowTest rows listed first kind size) size)

@@ -1,17 +1,10 @@
 use borrow.Author.Needs.{needs}
-use native.Mathlib.Omega.{arith}
-use Prim.Native.Nat.{ℕ, _+_, _-_, _*_, _/_, _%_, _≤_, _<_}
-use mathlib.Core.Path.{_≡_, refl, ap, ap₂, sym, _∙_}
-use mathlib.Core.Bool.{Bool, true, false}
-use lib.ListN.{length, getD, take, drop, set}
+use Prim.Native.Nat.{_-_}
+use mathlib.Core.Path.{sym, _∙_}
 use borrow.Author.Tests.{not-true, not-false}
 use Rattle.kinds.specs.Tests.{stack-not, stack-shaped}
 use Rattle.kinds.proofs.stack_ok.Statement.{statement}
 use Rattle.kinds.proofs.stack_ok.Tie as tie
-use Rattle.kinds.proofs.stack_ok.Reads as reads
-use Rattle.kinds.proofs.stack_ok.Lts as lts
-use Rattle.kinds.proofs.closed_ok.Reads as closed-ok-reads
-use Rattle.kinds.proofs.shape_ok.Reads as shape-ok-reads
 
 shape-ok-requires : tie.Need-shape-ok-requires
 shape-ok-requires c κs = search needs

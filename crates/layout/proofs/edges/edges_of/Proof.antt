@@ -1,19 +1,12 @@
 use borrow.Author.Needs.{needs}
 use native.Mathlib.Omega.{arith}
-use Prim.Native.Nat.{ℕ, _+_, _-_, _*_, _/_, _%_, _≤_, _<_}
-use mathlib.Core.Path.{_≡_, refl, ap, ap₂, sym, _∙_}
-use mathlib.Core.Bool.{Bool, true, false}
-use lib.ListN.{length, getD, take, drop, set}
+use Prim.Native.Nat.{_-_, _≤_}
+use mathlib.Core.Path.{refl, sym, _∙_}
 use borrow.Author.Tests.{not-true, not-false}
 use Rattle.wire.specs.Payload.{wordAt}
-use Rattle.layout.specs.Edges.{EdgesAre, found-fault, count-short, count-over, edges-fault, edges-surplus, edges-whole}
+use Rattle.layout.specs.Edges.{found-fault, count-short, count-over, edges-fault, edges-surplus, edges-whole}
 use Rattle.layout.proofs.edges.edges_of.Statement.{statement}
 use Rattle.layout.proofs.edges.edges_of.Tie as tie
-use Rattle.layout.proofs.edges.edges_of.Reads as reads
-use Rattle.layout.proofs.edges.edges_of.Lts as lts
-use Rattle.layout.proofs.edges.read_edges.Reads as read-edges-reads
-use Rattle.layout.proofs.sound.Reads as sound-reads
-use Rattle.wire.proofs.payload_word.Reads as payload-word-reads
 
 returns : tie.Need-returns
 returns c =

@@ -1,16 +1,9 @@
-use borrow.Author.Needs.{needs}
-use native.Mathlib.Omega.{arith}
-use Prim.Native.Nat.{ℕ, _+_, _-_, _*_, _/_, _%_, _≤_, _<_}
-use mathlib.Core.Path.{_≡_, refl, ap, ap₂, sym, _∙_}
-use mathlib.Core.Bool.{Bool, true, false}
-use lib.ListN.{length, getD, take, drop, set}
+use Prim.Native.Nat.{_-_}
 use Rattle.layout.specs.Heads.{leastOf, least-at, least-none}
 use Rattle.spec.specs.Outcome.{_&&_}
 use Rattle.spec.specs.Layout.{leastSize}
 use Rattle.layout.proofs.heads.least_size.Statement.{statement}
 use Rattle.layout.proofs.heads.least_size.Tie as tie
-use Rattle.layout.proofs.heads.least_size.Reads as reads
-use Rattle.layout.proofs.heads.least_size.Lts as lts
 
 returns : tie.Need-returns
 unfolding leastOf leastSize _&&_

@@ -1,18 +1,11 @@
 use borrow.Author.Needs.{needs}
 use native.Mathlib.Omega.{arith}
-use Prim.Native.Nat.{ℕ, _+_, _-_, _*_, _/_, _%_, _≤_, _<_}
-use mathlib.Core.Path.{_≡_, refl, ap, ap₂, sym, _∙_}
-use mathlib.Core.Bool.{Bool, true, false}
-use lib.ListN.{length, getD, take, drop, set}
+use Prim.Native.Nat.{_-_}
+use mathlib.Core.Path.{sym, _∙_}
 use Rattle.layout.specs.Heads.{counts-short, counts-vertices, counts-end, counts-zones, counts-good}
 use borrow.Author.Tests.{not-true, not-false}
 use Rattle.layout.proofs.heads.read_counts.Statement.{statement}
 use Rattle.layout.proofs.heads.read_counts.Tie as tie
-use Rattle.layout.proofs.heads.read_counts.Reads as reads
-use Rattle.layout.proofs.heads.read_counts.Lts as lts
-use Rattle.layout.proofs.heads.counted.Reads as counted-reads
-use Rattle.layout.proofs.heads.no_counts.Reads as no-counts-reads
-use Rattle.wire.proofs.payload_byte.Reads as payload-byte-reads
 
 no-counts-requires : tie.Need-no-counts-requires
 no-counts-requires c κs = search needs

@@ -1,17 +1,10 @@
 use borrow.Author.Needs.{needs}
 use native.Mathlib.Omega.{arith}
-use Prim.Native.Nat.{ℕ, _+_, _-_, _*_, _/_, _%_, _≤_, _<_}
-use mathlib.Core.Path.{_≡_, refl, ap, ap₂, sym, _∙_}
-use mathlib.Core.Bool.{Bool, true, false}
-use lib.ListN.{length, getD, take, drop, set}
+use Prim.Native.Nat.{_-_}
+use mathlib.Core.Path.{_≡_, sym, _∙_}
 use Rattle.layout.specs.Heads.{leastOf, head-short, head-kind, head-end, head-small, head-good}
 use Rattle.layout.proofs.heads.read_head.Statement.{statement}
 use Rattle.layout.proofs.heads.read_head.Tie as tie
-use Rattle.layout.proofs.heads.read_head.Reads as reads
-use Rattle.layout.proofs.heads.read_head.Lts as lts
-use Rattle.layout.proofs.heads.least_size.Reads as least-size-reads
-use Rattle.layout.proofs.heads.no_head.Reads as no-head-reads
-use Rattle.wire.proofs.payload_byte.Reads as payload-byte-reads
 
 no-head-requires : tie.Need-no-head-requires
 no-head-requires c κs = search needs

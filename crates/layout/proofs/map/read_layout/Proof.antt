@@ -1,23 +1,13 @@
 use borrow.Author.Needs.{needs}
-use native.Mathlib.Omega.{arith}
-use Prim.Native.Nat.{ℕ, _+_, _-_, _*_, _/_, _%_, _≤_, _<_}
-use mathlib.Core.Path.{_≡_, refl, ap, ap₂, sym, _∙_}
-use mathlib.Core.Bool.{Bool, true, false}
-use lib.ListN.{length, getD, take, drop, set}
+use Prim.Native.Nat.{_-_}
+use mathlib.Core.Path.{sym, _∙_}
 use borrow.Author.Tests.{not-true, not-false}
-use Rattle.layout.specs.Fault.{answered, given}
+use Rattle.layout.specs.Fault.{given}
 use Rattle.layout.specs.Bytes.{held}
 use Rattle.layout.specs.Heads.{countsIn, counts-range}
 use Rattle.layout.specs.Map.{noMap, mapAt, edgesIn, map-counts, map-zones, map-rest, nothing-is, made-is}
 use Rattle.layout.proofs.map.read_layout.Statement.{statement}
 use Rattle.layout.proofs.map.read_layout.Tie as tie
-use Rattle.layout.proofs.map.read_layout.Reads as reads
-use Rattle.layout.proofs.map.read_layout.Lts as lts
-use Rattle.layout.proofs.heads.read_counts.Reads as read-counts-reads
-use Rattle.layout.proofs.map.read_rest.Reads as read-rest-reads
-use Rattle.layout.proofs.map.refused.Reads as refused-reads
-use Rattle.layout.proofs.sound.Reads as sound-reads
-use Rattle.layout.proofs.zones.zones_of.Reads as zones-of-reads
 
 read-counts-requires : tie.Need-read-counts-requires
 read-counts-requires c κs = search needs

@@ -1,22 +1,12 @@
 use borrow.Author.Needs.{needs}
-use native.Mathlib.Omega.{arith}
-use Prim.Native.Nat.{ℕ, _+_, _-_, _*_, _/_, _%_, _≤_, _<_}
-use mathlib.Core.Path.{_≡_, refl, ap, ap₂, sym, _∙_}
-use mathlib.Core.Bool.{Bool, true, false}
-use lib.ListN.{length, getD, take, drop, set}
+use Prim.Native.Nat.{_-_}
+use mathlib.Core.Path.{refl, ap, sym, _∙_}
 use borrow.Author.Tests.{not-true, not-false}
 use Rattle.wire.specs.Checked.{checkedOf}
 use Rattle.layout.specs.declared.MapFault.the-variants.{Length, Checksum, Head, Fill}
 use Rattle.layout.specs.Map.{mapIn, noMap, file-refused, file-read, file-cleared, no-payload, a-payload, payload-bound}
 use Rattle.layout.proofs.map.read_map.Statement.{statement}
 use Rattle.layout.proofs.map.read_map.Tie as tie
-use Rattle.layout.proofs.map.read_map.Reads as reads
-use Rattle.layout.proofs.map.read_map.Lts as lts
-use Rattle.adjacency.proofs.clear.Reads as clear-reads
-use Rattle.layout.proofs.map.read_layout.Reads as read-layout-reads
-use Rattle.layout.proofs.map.refused.Reads as refused-reads
-use Rattle.layout.proofs.sound.Reads as sound-reads
-use Rattle.wire.proofs.check_file.Reads as check-file-reads
 
 clear-requires : tie.Need-clear-requires
 clear-requires c κs = search needs

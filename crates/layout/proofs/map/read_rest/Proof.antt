@@ -1,20 +1,10 @@
 use borrow.Author.Needs.{needs}
-use native.Mathlib.Omega.{arith}
-use Prim.Native.Nat.{ℕ, _+_, _-_, _*_, _/_, _%_, _≤_, _<_}
-use mathlib.Core.Path.{_≡_, refl, ap, ap₂, sym, _∙_}
-use mathlib.Core.Bool.{Bool, true, false}
-use lib.ListN.{length, getD, take, drop, set}
-use mathlib.Core.List.{List}
+use Prim.Native.Nat.{_-_}
+use mathlib.Core.Path.{sym, _∙_}
 use borrow.Author.Tests.{not-true, not-false}
-use Rattle.layout.specs.Edges.{EdgesFound}
 use Rattle.layout.specs.Map.{mapAt, edgesIn, rest-refused, rest-ready, rest-tested}
 use Rattle.layout.proofs.map.read_rest.Statement.{statement}
 use Rattle.layout.proofs.map.read_rest.Tie as tie
-use Rattle.layout.proofs.map.read_rest.Reads as reads
-use Rattle.layout.proofs.map.read_rest.Lts as lts
-use Rattle.layout.proofs.edges.edges_of.Reads as edges-of-reads
-use Rattle.layout.proofs.map.test_kinds.Reads as test-kinds-reads
-use Rattle.layout.proofs.sound.Reads as sound-reads
 
 edges-of-requires : tie.Need-edges-of-requires
 edges-of-requires c κs = search needs

@@ -1,18 +1,14 @@
 use borrow.Author.Needs.{needs}
 use native.Mathlib.Omega.{arith}
-use Prim.Native.Nat.{ℕ, _+_, _-_, _*_, _/_, _%_, _≤_, _<_}
-use mathlib.Core.Path.{_≡_, refl, ap, ap₂, sym, _∙_}
-use mathlib.Core.Bool.{Bool, true, false}
-use lib.ListN.{length, getD, take, drop, set}
+use Prim.Native.Nat.{_-_, _≤_}
+use mathlib.Core.Path.{_≡_, refl, sym, _∙_}
+use lib.ListN.{drop}
 use borrow.Author.Tests.{not-true, not-false}
 use Rattle.spec.specs.Layout.{Map, kindsFrom}
 use Rattle.layout.specs.Zones.{headsOf, zonesIn}
 use Rattle.layout.specs.Kinds.{Ready, kinds-bad, kinds-good, kinds-all}
 use Rattle.layout.proofs.map.test_kinds.Statement.{statement}
 use Rattle.layout.proofs.map.test_kinds.Tie as tie
-use Rattle.layout.proofs.map.test_kinds.Reads as reads
-use Rattle.layout.proofs.map.test_kinds.Lts as lts
-use Rattle.kinds.proofs.of_kind.Reads as of-kind-reads
 
 abbrev Inv-loop : tie.InvT-loop
 Inv-loop rows count read listed zone i₀ i = (i ≤ count) × ((m : Map) → Ready rows m (headsOf read) (read .listed) (read .zone) count → kindsFrom m 0 (zonesIn (headsOf read) (read .listed) count) ≡ kindsFrom m i (drop i (zonesIn (headsOf read) (read .listed) count)))

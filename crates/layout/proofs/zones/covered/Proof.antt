@@ -1,9 +1,8 @@
 use borrow.Author.Needs.{needs}
 use native.Mathlib.Omega.{arith}
-use Prim.Native.Nat.{ℕ, _+_, _-_, _*_, _/_, _%_, _≤_, _<_}
-use mathlib.Core.Path.{_≡_, refl, ap, ap₂, sym, _∙_}
-use mathlib.Core.Bool.{Bool, true, false}
-use lib.ListN.{length, getD, take, drop, set}
+use Prim.Native.Nat.{_-_, _≤_}
+use mathlib.Core.Path.{_≡_, refl, ap, sym, _∙_}
+use lib.ListN.{getD}
 use mathlib.Core.Bool.{not}
 use lib.Dec.{eqb}
 use borrow.Author.Tests.{eq-eqb, ne-eqb}
@@ -11,8 +10,6 @@ use Rattle.spec.specs.Outcome.{below}
 use Rattle.kinds.specs.Tests.{below-more, below-not}
 use Rattle.layout.proofs.zones.covered.Statement.{statement}
 use Rattle.layout.proofs.zones.covered.Tie as tie
-use Rattle.layout.proofs.zones.covered.Reads as reads
-use Rattle.layout.proofs.zones.covered.Lts as lts
 
 abbrev Inv-loop : tie.InvT-loop
 Inv-loop zone n v₀ v = (v ≤ n) × (below (λ w. not (eqb (getD zone w 0) 255)) v ≡ below (λ w. not (eqb (getD zone w 0) 255)) n)

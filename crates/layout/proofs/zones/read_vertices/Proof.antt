@@ -1,17 +1,12 @@
 use borrow.Author.Needs.{needs}
 use native.Mathlib.Omega.{arith}
-use Prim.Native.Nat.{ℕ, _+_, _-_, _*_, _/_, _%_, _≤_, _<_}
-use mathlib.Core.Path.{_≡_, refl, ap, ap₂, sym, _∙_}
-use mathlib.Core.Bool.{Bool, true, false}
-use lib.ListN.{length, getD, take, drop, set}
+use Prim.Native.Nat.{ℕ, _+_, _-_, _≤_, _<_}
+use mathlib.Core.Path.{_≡_, refl, ap}
 use Rattle.layout.specs.Fault.{not-both}
-use Rattle.layout.specs.Table.{Going, Rep, space, entry-same, going-start, going-more, going-short, going-over, going-twice, going-end}
+use Rattle.layout.specs.Table.{Going, space, entry-same, going-start, going-more, going-short, going-over, going-twice, going-end}
 use Rattle.layout.specs.Zones.{tableOf}
 use Rattle.layout.proofs.zones.read_vertices.Statement.{statement}
 use Rattle.layout.proofs.zones.read_vertices.Tie as tie
-use Rattle.layout.proofs.zones.read_vertices.Reads as reads
-use Rattle.layout.proofs.zones.read_vertices.Lts as lts
-use Rattle.wire.proofs.payload_byte.Reads as payload-byte-reads
 
 abbrev Inv-loop : tie.InvT-loop
 Inv-loop file m n z size from used listed₀ zone₀ place₀ k₀ listed zone place k = (k ≤ size) × Going file m n z size from (tableOf used listed₀ zone₀ place₀) (tableOf (used + k) listed zone place) k

@@ -1,23 +1,15 @@
 use borrow.Author.Needs.{needs}
 use native.Mathlib.Omega.{arith}
-use Prim.Native.Nat.{ℕ, _+_, _-_, _*_, _/_, _%_, _≤_, _<_}
-use mathlib.Core.Path.{_≡_, refl, ap, ap₂, sym, _∙_}
-use mathlib.Core.Bool.{Bool, true, false}
-use lib.ListN.{length, getD, take, drop, set}
+use Prim.Native.Nat.{_+_, _-_, _*_, _≤_}
+use mathlib.Core.Path.{_≡_, refl, sym, _∙_}
 use borrow.Author.Tests.{not-true, not-false}
-use Rattle.layout.specs.Fault.{answered, soundOf, given}
+use Rattle.layout.specs.Fault.{given}
 use Rattle.layout.specs.Bytes.{held}
 use Rattle.layout.specs.Heads.{headIn}
 use Rattle.layout.specs.Table.{Table, seen}
 use Rattle.layout.specs.Zones.{GoingAll, tableOf, headsAt, zonesRead, zones-refused, all-head, all-vertices, all-more, all-start, all-end, all-held}
 use Rattle.layout.proofs.zones.read_zones.Statement.{statement}
 use Rattle.layout.proofs.zones.read_zones.Tie as tie
-use Rattle.layout.proofs.zones.read_zones.Reads as reads
-use Rattle.layout.proofs.zones.read_zones.Lts as lts
-use Rattle.layout.proofs.heads.read_head.Reads as read-head-reads
-use Rattle.layout.proofs.sound.Reads as sound-reads
-use Rattle.layout.proofs.zones.no_zones.Reads as no-zones-reads
-use Rattle.layout.proofs.zones.read_vertices.Reads as read-vertices-reads
 
 abbrev Inv-loop : tie.InvT-loop
 Inv-loop file m n z kind₀ first₀ size₀ listed₀ zone₀ place₀ used₀ i₀ o₀ kind first size listed zone place used i o = (i ≤ z) × (o ≤ 2 + i * 257) × GoingAll file m n z (headsAt kind first size) (tableOf used listed zone place) i o

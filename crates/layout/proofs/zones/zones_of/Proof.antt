@@ -1,19 +1,11 @@
 use borrow.Author.Needs.{needs}
 use native.Mathlib.Omega.{arith}
-use Prim.Native.Nat.{ℕ, _+_, _-_, _*_, _/_, _%_, _≤_, _<_}
-use mathlib.Core.Path.{_≡_, refl, ap, ap₂, sym, _∙_}
-use mathlib.Core.Bool.{Bool, true, false}
-use lib.ListN.{length, getD, take, drop, set}
+use Prim.Native.Nat.{_-_}
+use mathlib.Core.Path.{sym, _∙_}
 use borrow.Author.Tests.{not-true, not-false}
 use Rattle.layout.specs.Zones.{found-refused, found-all, found-not}
 use Rattle.layout.proofs.zones.zones_of.Statement.{statement}
 use Rattle.layout.proofs.zones.zones_of.Tie as tie
-use Rattle.layout.proofs.zones.zones_of.Reads as reads
-use Rattle.layout.proofs.zones.zones_of.Lts as lts
-use Rattle.layout.proofs.sound.Reads as sound-reads
-use Rattle.layout.proofs.zones.covered.Reads as covered-reads
-use Rattle.layout.proofs.zones.no_zones.Reads as no-zones-reads
-use Rattle.layout.proofs.zones.read_zones.Reads as read-zones-reads
 
 read-zones-requires : tie.Need-read-zones-requires
 read-zones-requires c κs = search needs

@@ -1,0 +1,21 @@
+use borrow.Author.Needs.{needs}
+use native.Mathlib.Omega.{arith}
+use Prim.Native.Nat.{_-_}
+use Rattle.layout.specs.Tables.{entry-in, entry-out}
+use Rattle.placing.proofs.vertex_of.Statement.{statement}
+use Rattle.placing.proofs.vertex_of.Tie as tie
+
+cast-i : tie.Need-cast-i
+cast-i c = search needs
+
+returns : tie.Need-returns
+returns c = entry-out _ _ _ _ (c .if1 .taken)
+
+element-copy-out-v : tie.Need-element-copy-out-v
+element-copy-out-v c = search needs
+
+returns-2 : tie.Need-returns-2
+returns-2 c = entry-in _ _ _ _ (omega arith)
+
+pub vertex-of-spec : {M : Type 1} → statement M
+vertex-of-spec = tie.close (tie.spec cast-i returns element-copy-out-v returns-2)
