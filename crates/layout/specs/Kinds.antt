@@ -13,13 +13,8 @@ use Rattle.spec.specs.Outcome.{ok, refuse, _>>_, check, member, indexOf}
 use Rattle.spec.specs.Layout.{Map, Zone, Edge, readZones, readEdges, leastSize, ofKind, kindsFrom, zoneFrom}
 use Rattle.theory.specs.Basics.Tests.{of-true}
 use Rattle.theory.specs.Basics.Lists.{getD-default}
-<<<<<<< HEAD
-use Rattle.theory.specs.Maps.Layout as accepted
 use Rattle.theory.specs.Maps.Listing as listing
-=======
-use Rattle.theory.specs.Maps.Layout as listing
 use Rattle.theory.specs.Maps.Layout.{no-edge, read-edges, has-edge}
->>>>>>> dc513f723ca9e3bc2485e5d7e50354a912cb122d
 use Rattle.adjacency.specs.Rows.{Shows, same-test}
 use Rattle.kinds.specs.Tests.{kindTest}
 use Rattle.kinds.specs.Shape.{part, part-length}
