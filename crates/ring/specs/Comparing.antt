@@ -38,14 +38,17 @@ pub other-head : (x y : ℕ) (xs ys : List ℕ) → x ≢ y → false ≡ sameLi
 unfolding sameList
 other-head x y xs ys n = sym (ap (λ (b : Bool). elim b as (λ b. Bool) [ true ↦ sameList xs ys | false ↦ false ]) (ne-eqb x y n))
 
+-- a longer list is not the same
 longer : (x : ℕ) (xs : List ℕ) → false ≡ sameList (x ∷ xs) []
 unfolding sameList
 longer x xs = refl
 
+-- a shorter list is not the same
 shorter : (y : ℕ) (ys : List ℕ) → false ≡ sameList [] (y ∷ ys)
 unfolding sameList
 shorter y ys = refl
 
+-- two empty lists are the same
 both-over : true ≡ sameList [] []
 unfolding sameList
 both-over = refl
@@ -70,17 +73,20 @@ cell-same x y e = go (ℕ-discrete y 255)
     go (no d) = cell-robot x y (e ∙ cell-of d) .0
 
 module _ (s t : State) (vs : List ℕ) where
+  -- the same robot on place i of both: the rest decides
   pub cells-on : (i x y : ℕ) → i < length vs → x ≡ robotOn s (getD vs i 0) → y ≡ robotOn t (getD vs i 0) → x ≡ y
       → sameList (drop (i + 1) (arrangementOf s vs)) (drop (i + 1) (arrangementOf t vs)) ≡ sameList (drop i (arrangementOf s vs)) (drop i (arrangementOf t vs))
   cells-on i x y h e f d =
       same-head (cellOf x) (cellOf y) _ _ (ap cellOf d) ∙ sym (ap₂ sameList (arrangement-next s vs i x h e) (arrangement-next t vs i y h f))
 
+  -- different robots on place i: not the same
   pub cells-differ : (i x y : ℕ) → i < length vs → x ≡ robotOn s (getD vs i 0) → y ≡ robotOn t (getD vs i 0) → x ≢ y
       → false ≡ sameList (drop i (arrangementOf s vs)) (drop i (arrangementOf t vs))
   cells-differ i x y h e f n =
       other-head (cellOf x) (cellOf y) (drop (i + 1) (arrangementOf s vs)) (drop (i + 1) (arrangementOf t vs)) (λ q. n (cell-same x y q))
       ∙ sym (ap₂ sameList (arrangement-next s vs i x h e) (arrangement-next t vs i y h f))
 
+  -- no place is left: the same
   pub cells-over : (i : ℕ) → length vs ≤ i → true ≡ sameList (drop i (arrangementOf s vs)) (drop i (arrangementOf t vs))
   cells-over i h = both-over ∙ sym (ap₂ sameList (places-over s vs i h) (places-over t vs i h))
 
@@ -123,6 +129,7 @@ module _ (s : State) (vs : List ℕ) (p : ℕ) (h : p < length vs) where
   unfolding order
   robots-none k i t e = sym (t .same) ∙ ap order (drop-of-length-le (frame p (arrangementOf s vs)) {i = i} (omega (arith, frame-size s vs p h)))
 
+  -- the next robot is the one on the place found
   pub robots-next : (k i x : ℕ) → Taken (frame p (arrangementOf s vs)) k i → i ≢ length vs → x ≡ robotOn s (getD vs (wrap (length vs) (p + i)) 0)
       → order (drop k (frame p (arrangementOf s vs))) ≡ x ∷ order (drop (i + 1) (frame p (arrangementOf s vs)))
   unfolding order
@@ -212,6 +219,7 @@ turned-round r rs g =
     let i = index-order r g in
     ap (sameList (r ∷ rs)) (ap₂ (λ (x y : List ℕ). x ++ y) (i .0) (i .1) ∙ sym (order-append (drop (seek (suc r) g) g) (take (seek (suc r) g) g)))
 
+-- the order, compared with the goal read from the first robot's place on
 pub turned-from : (a g : Arrangement) (r q : ℕ) (rs : List ℕ) → order a ≡ r ∷ rs → q ≡ seek (suc r) g
     → sameList (order a) (order (frame q g)) ≡ turned (order a) (order g)
 turned-from a g r q rs e d = rw (e, d) (sym (turned-round r rs g))
@@ -231,10 +239,12 @@ turned-out a g r q rs e d n = sym (false-of none) ∙ turned-from a g r q rs e d
 
 -- ---- the whole question
 
+-- in a full ring the arrangements are compared
 pub end-full : (a g : Arrangement) → full a ≡ true → sameList a g ≡ ringCanEnd a g
 unfolding ringCanEnd
 end-full a g e = rw (e, ringCanEnd)
 
+-- in another one the orders, up to turning
 pub end-open : (a g : Arrangement) → full a ≡ false → turned (order a) (order g) ≡ ringCanEnd a g
 unfolding ringCanEnd
 end-open a g e = rw (e, ringCanEnd)
@@ -251,9 +261,11 @@ unfolding frame
 frame-first a = append-nil a
 
 module _ (s : State) (vs : List ℕ) (h : 0 < length vs) where
+  -- no place is taken: there is no robot
   pub first-none : (i : ℕ) → Taken (frame 0 (arrangementOf s vs)) 0 i → i ≡ length vs → order (arrangementOf s vs) ≡ []
   first-none i t e = ap order (sym (frame-first (arrangementOf s vs))) ∙ robots-none s vs 0 h 0 i t e
 
+  -- the first taken place has the first robot of the order
   pub first-robot : (i x : ℕ) → Taken (frame 0 (arrangementOf s vs)) 0 i → i ≢ length vs → x ≡ robotOn s (getD vs i 0)
       → order (arrangementOf s vs) ≡ x ∷ order (drop (i + 1) (frame 0 (arrangementOf s vs)))
   first-robot i x t n e =

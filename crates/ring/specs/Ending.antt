@@ -34,10 +34,12 @@ use Rattle.ring.specs.Comparing.{end-full, end-open}
 
 -- ---- the lowest-numbered robot, read from the last place on
 
+-- the lesser of a cell and an empty one
 lesser-none : (x y : ℕ) → y ≡ 0 → lesser x y ≡ x
 unfolding lesser
 lesser-none x y e = ap (λ (b : Bool). elim b as (λ b. ℕ) [ true ↦ x | false ↦ min x y ]) (eq-eqb y 0 e)
 
+-- the lesser of two robots' cells
 lesser-both : (x y : ℕ) → y ≢ 0 → lesser x y ≡ min x y
 unfolding lesser
 lesser-both x y n = ap (λ (b : Bool). elim b as (λ b. ℕ) [ true ↦ x | false ↦ min x y ]) (ne-eqb y 0 n)
@@ -113,6 +115,7 @@ goal-inside a g r e c = go (full a) refl
     go true d = rw (same→eq a g (of-true (end-full a g d ∙ c))) at (found a (lowest-in (order a) r e))
     go false d = found g (round (order a) (lowest-in (order a) r e) (end-open a g d ∙ c))
 
+-- the lowest-numbered robot has a place in the ring
 pub robot-inside : (a : Arrangement) (r : ℕ) → lowest (order a) ≡ suc r → seek (suc r) a < length a
 robot-inside a r e =
     let w = member→cell a r (lowest-in (order a) r e) in
@@ -120,6 +123,7 @@ robot-inside a r e =
 
 -- ---- the moves of a hall keep to its places
 
+-- the places of the robots are places of the hall
 places-under : (k : ℕ) (a : Arrangement) → Each (λ p. p < k + length a) (places k a)
 unfolding places
 places-under k [] = none
@@ -133,6 +137,7 @@ pub record Trips (m : ℕ) (t : Trip) : Type 0 where
   pub leaves : t .from < m
   pub arrives : t .to < m
 
+-- trips between places of the hall
 trips-under : (m : ℕ) (rs ps qs : List ℕ) → Each (λ p. p < m) ps → Each (λ q. q < m) qs → Each (Trips m) (trips rs ps qs)
 unfolding trips
 trips-under m [] ps qs h k = none
@@ -140,22 +145,26 @@ trips-under m (r ∷ rs) [] qs h k = none
 trips-under m (r ∷ rs) (p ∷ ps) [] h k = none
 trips-under m (r ∷ rs) (p ∷ ps) (q ∷ qs) (_&&&_ h hs) (_&&&_ k ks) = _&&&_ (record { leaves = h; arrives = k }) (trips-under m rs ps qs hs ks)
 
+-- moves down stay inside
 down-under : (m r n j : ℕ) → n + j < m → Each (Within m) (down r n j)
 unfolding down
 down-under m r zero j h = none
 down-under m r (suc n) j h = _&_ {P = Within m} {x = mv r (suc (n + j)) (n + j)} (omega arith, omega arith) (down-under m r n j (omega arith))
 
+-- moves up stay inside
 up-under : (m r n i : ℕ) → n + i < m → Each (Within m) (up r n i)
 unfolding up
 up-under m r zero i h = none
 up-under m r (suc n) i h = _&_ {P = Within m} {x = mv r i (suc i)} (omega arith, omega arith) (up-under m r n (suc i) (omega arith))
 
+-- robots going lower stay inside
 lowering-under : (m : ℕ) (ts : List Trip) → Each (Trips m) ts → Each (Within m) (lowering ts)
 unfolding lowering
 lowering-under m [] none = none
 lowering-under m (t ∷ ts) (_&&&_ h hs) =
     each-append (down-under m (t .robot) (t .from - t .to) (t .to) (omega (arith, h .leaves, h .arrives))) (lowering-under m ts hs)
 
+-- robots going higher stay inside
 raising-under : (m : ℕ) (ts : List Trip) → Each (Trips m) ts → Each (Within m) (raising ts)
 unfolding raising
 raising-under m [] none = none
@@ -208,6 +217,7 @@ pub end-none : (a g : Arrangement) → lowest (order a) ≡ 0 → ringEnd a g �
 unfolding ringEnd
 end-none a g e = ap (λ (b : Bool). elim b as (λ b. List Move) [ true ↦ [] | false ↦ ringEndAt a g (lowest (order a) - 1) ]) (eq-eqb (lowest (order a)) 0 e)
 
+-- the ending goes by the lowest-numbered robot
 end-robot : (a g : Arrangement) (r : ℕ) → lowest (order a) ≡ suc r → ringEnd a g ≡ ringEndAt a g r
 unfolding ringEnd
 end-robot a g r e =
@@ -280,5 +290,6 @@ module _ (s t : State) (vs : List ℕ) (r : ℕ) (e : cellOf r ≡ lowest (order
   pub ends-stands : r ≢ 255 → seek (suc r) (arrangementOf s vs) < length vs
   ends-stands n = omega (arith, robot-inside (arrangementOf s vs) r (sym e ∙ cell-of n), arrangement-length s vs)
 
+  -- its goal's place is in the ring
   pub ends-goal : r ≢ 255 → ringCanEnd (arrangementOf s vs) (arrangementOf t vs) ≡ true → seek (suc r) (arrangementOf t vs) < length vs
   ends-goal n d = omega (arith, goal-inside (arrangementOf s vs) (arrangementOf t vs) r (sym e ∙ cell-of n) d, arrangement-length t vs)
