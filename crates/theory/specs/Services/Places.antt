@@ -82,7 +82,7 @@ small-count b n p h = go (wordAt n p 0)
     go (ok c) = tt
     go (refuse n q) = h
 
-count-small : (n : ℕ) (p : List ℕ) (c : ℕ) → Bytes p → countOf n p ≡ ok c → c < 65536
+pub count-small : (n : ℕ) (p : List ℕ) (c : ℕ) → Bytes p → countOf n p ≡ ok c → c < 65536
 unfolding countOf wordAt word
 count-small n p c h e = go (ltb (0 + 1) (length p)) e
   where

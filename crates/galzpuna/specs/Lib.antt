@@ -1,0 +1,3 @@
+-- What ties the exported services to the written meanings.
+pub mod Refusals
+pub mod Opened
