@@ -1,3 +1,4 @@
 -- What ties the exported services to the written meanings.
 pub mod Refusals
 pub mod Opened
+pub mod Services

@@ -5,6 +5,10 @@
 //     services   drawing and rounds
 mod files;
 mod refusals;
+pub mod services;
+
+pub use services::galzpuna_draw;
+pub use services::galzpuna_rounds;
 
 // What a service returns: the number, and the place of a refusal or the bytes written.
 #[repr(C)]

@@ -1,0 +1,73 @@
+// The exported services. Slices must not overlap the answer buffer: that is the host's duty.
+ghost use mathlib.Core.Path.{_≡_};
+ghost use Prim.Native.Nat.{_<_};
+ghost use lib.ListN.{length};
+ghost use Rattle.spec.specs.Services.{drawing, rounds};
+ghost use Rattle.galzpuna.specs.Services.{answered, refusal};
+use crate::Answer;
+use crate::files::open_list;
+
+// Gives a refusal, and leaves the whole buffer zero.
+fn refuse(out: &mut [u8], number: u32, place: usize) -> Answer
+    requires { ⌜ place < 65536 ⌝ }
+    ensures { λ r. ⌜ answered r (now (out .exit)) ≡ refusal number place (now (out .entry)) ⌝ }
+{
+    wire::zero(out);
+    Answer {
+        number: number,
+        place: place as u32,
+    }
+}
+
+// Drawing: the plan of a move list that is legal and reaches the goals.
+#[no_mangle]
+pub extern "C" fn galzpuna_draw(map: &[u8], placing: &[u8], moves: &[u8], out: &mut [u8]) -> Answer
+    ensures { λ r. ⌜ answered r (now (out .exit)) ≡ drawing (now (map .entry)) (now (placing .entry)) (now (moves .entry)) (length (now (out .entry))) ⌝ }
+{
+    let o = open_list(map, placing, moves);
+    let f = o.refusal;
+    let number = f.number;
+    if number != 0 {
+        return refuse(out, number, f.place);
+    }
+    let m = o.map;
+    let p = o.placing;
+    let starts = p.starts;
+    let k = p.robots as usize;
+    let count = o.count;
+    let listed = m.listed;
+    let s = motion::standing(starts, k);
+    let d = replay::draw_moves(moves, count, m, listed, s, out);
+    wire::put_word(out, 0, d.steps);
+    let w = wire::deliver(out, 3, 64, d.bytes);
+    Answer {
+        number: w.number,
+        place: w.value,
+    }
+}
+
+// Rounds: the round sheet of a move list that is legal and reaches the goals.
+#[no_mangle]
+pub extern "C" fn galzpuna_rounds(
+    map: &[u8],
+    placing: &[u8],
+    moves: &[u8],
+    out: &mut [u8],
+) -> Answer
+    ensures { λ r. ⌜ answered r (now (out .exit)) ≡ rounds (now (map .entry)) (now (placing .entry)) (now (moves .entry)) (length (now (out .entry))) ⌝ }
+{
+    let o = open_list(map, placing, moves);
+    let f = o.refusal;
+    let number = f.number;
+    if number != 0 {
+        return refuse(out, number, f.place);
+    }
+    let count = o.count;
+    replay::write_rounds(moves, count, out);
+    wire::put_word(out, 0, count);
+    let w = wire::deliver(out, 5, 128, 2 + count * 2);
+    Answer {
+        number: w.number,
+        place: w.value,
+    }
+}
