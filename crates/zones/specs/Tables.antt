@@ -20,7 +20,7 @@ verticesIn first size listed z = take (getD size z 0) (drop (getD first z 0) lis
 -- stands in zone zone[v] at place place[v]
 pub record Tables (m : Map) (kind first size listed zone place : List ℕ) : Type 0 where
   pub few : zoneCount m ≤ 64
-  pub fits : (z : ℕ) → z < zoneCount m → getD first z 0 + getD size z 0 ≤ 128
+  pub fits : (z : ℕ) → z < zoneCount m → getD first z 0 + getD size z 0 ≤ length listed
   pub kinds : (z : ℕ) → z < zoneCount m → kindOf m z ≡ getD kind z 0
   pub vertices : (z : ℕ) → z < zoneCount m → zoneAt m z .vertices ≡ verticesIn first size listed z
   pub zones : (v : ℕ) → v < m .size → getD zone v 0 ≡ zoneOf m v

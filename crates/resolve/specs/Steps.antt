@@ -1,0 +1,187 @@
+-- A step by the tables and by the bytes of the file: its tests, and what its moves need.
+use mathlib.Core.Path.{_≡_, refl, sym, ap, ap₂, _∙_}
+use mathlib.Core.Bool.{Bool, true, false}
+use mathlib.Core.List.{List, [], _∷_}
+use Prim.Native.Nat.{ℕ, _+_, _-_, _*_, _/_, _<_, _≤_}
+use native.Mathlib.Omega.{arith}
+use lib.ListN.{length, getD, take, drop}
+use lib.Dec.{eqb, eqb→eq}
+use Rattle.spec.specs.Outcome.{Outcome, refuse, _&&_}
+use Rattle.spec.specs.Layout.{Map, zoneOf, zoneAt}
+use Rattle.spec.specs.Arrangement.{Arrangement, Move, mv, lastFree}
+use Rattle.spec.specs.State.{State, arrangementOf, across}
+use Rattle.spec.specs.ZoneKind.{canLeave, canEnter}
+use Rattle.spec.specs.Terms.{kindOf, placeOf, arrangementIn}
+use Rattle.theory.specs.Basics.Tests.{of-true, true-of, and-left, and-right}
+use Rattle.theory.specs.Maps.Consistent.{Consistent}
+use Rattle.theory.specs.Zones.Crossing.{extraOf}
+use Rattle.theory.specs.Plans.Taken.{Taken}
+use Rattle.wire.specs.Payload.{payload, held-length, held-byte}
+use Rattle.wire.specs.Payload as wire
+use Rattle.motion.specs.World.{World, madeAll}
+use Rattle.motion.specs.World as world
+use Rattle.clique.specs.Entering.{Numbered, numbered-none, entered-numbered}
+use Rattle.zones.specs.Kinds.{leaveMoves, enterMoves, clique-can-enter}
+use Rattle.resolve.specs.Tests.{numbered, crosses, entryTests, stepTests, stepMoves, Passes, tests-number, tests-edge, tests-leave, tests-enter}
+use Rattle.resolve.specs.Given.{Given, Shown, Stepping, HasVertex, kindAt, verticesAt, has-vertex, kind-is, vertices-is, place-is, numbers-below}
+use Rattle.resolve.specs.Held.{heldPart, held-same, extra-most}
+use Rattle.resolve.specs.Walk.{step-made}
+
+-- a byte of the payload that the code read in the file
+byte-is : (f : List ℕ) (len o x : ℕ) → len ≤ length f / 512 * 504 → o < len → x ≡ getD f (wire.placeOf o) 0 → x ≡ getD (take len (payload f)) o 0
+byte-is f len o x most h e = e ∙ sym (held-byte f len most o h)
+
+-- ---- the tests
+
+-- numbers that are below let the tables be read
+pub shown-vertices : (n k : ℕ) (kind first size listed zone place : List ℕ) (rows : List (List ℕ)) → Shown n k kind first size listed zone place rows → (r u v : ℕ) → true ≡ numbered n k r u v
+    → HasVertex first size listed zone place u × HasVertex first size listed zone place v
+shown-vertices n k kind first size listed zone place rows d r u v e =
+    let b = numbers-below n k r u v (sym e) in
+    (has-vertex (d .map) n k kind first size listed zone place rows (d .given) u (b .1), has-vertex (d .map) n k kind first size listed zone place rows (d .given) v (b .2))
+
+module _ (m : Map) (n k : ℕ) (kind first size listed zone place : List ℕ) (rows : List (List ℕ)) (d : Given m n k kind first size listed zone place rows)
+    (f : List ℕ) (len : ℕ) (most : len ≤ length f / 512 * 504) (i o : ℕ) (h : o + 4 ≤ len) (s : State) (r u v behind : ℕ)
+    (er : r ≡ getD f (wire.placeOf o) 0) (eu : u ≡ getD f (wire.placeOf (o + 1)) 0) (ev : v ≡ getD f (wire.placeOf (o + 2)) 0) (eb : behind ≡ getD f (wire.placeOf (o + 3)) 0) where
+  long : o + 4 ≤ length (take len (payload f))
+  long = omega (arith, held-length f len most)
+
+  sized : numbered n k r u v ≡ numbered (m .size) k r u v
+  sized = ap (λ (x : ℕ). numbered x k r u v) (sym (d .vertices))
+
+  -- a number is too large
+  pub step-number : false ≡ numbered n k r u v → refuse 36 i ≡ stepTests m k (take len (payload f)) i o s
+  step-number e = tests-number m k (take len (payload f)) i o s r u v behind (byte-is f len o r most (omega arith) er) (byte-is f len (o + 1) u most (omega arith) eu)
+      (byte-is f len (o + 2) v most (omega arith) ev) (byte-is f len (o + 3) behind most (omega arith) eb) long (sym (e ∙ sized))
+
+  module _ (a : true ≡ numbered n k r u v) where
+    -- no edge, or the same zone
+    pub step-edge : false ≡ crosses m u v → refuse 37 i ≡ stepTests m k (take len (payload f)) i o s
+    step-edge e = tests-edge m k (take len (payload f)) i o s r u v behind (byte-is f len o r most (omega arith) er) (byte-is f len (o + 1) u most (omega arith) eu)
+        (byte-is f len (o + 2) v most (omega arith) ev) (byte-is f len (o + 3) behind most (omega arith) eb) long (sym (a ∙ sized)) (sym e)
+
+    module _ (b : true ≡ crosses m u v) where
+      left : canLeave (kindAt kind zone u) (arrangementOf s (verticesAt first size listed zone u)) r (getD place u 0)
+          ≡ canLeave (kindOf m (zoneOf m u)) (arrangementIn m s (zoneOf m u)) r (placeOf m u)
+      left =
+          let x = numbers-below n k r u v (sym a) in
+          rw (kind-is m n k kind first size listed zone place rows d u (x .1), vertices-is m n k kind first size listed zone place rows d u (x .1), place-is m n k kind first size listed zone place rows d u (x .1))
+
+      entered : (i o r behind : ℕ) → entryTests (kindAt kind zone v) (arrangementOf s (verticesAt first size listed zone v)) (take len (payload f)) i o r (getD place v 0) behind
+          ≡ entryTests (kindOf m (zoneOf m v)) (arrangementIn m s (zoneOf m v)) (take len (payload f)) i o r (placeOf m v) behind
+      entered i o r behind =
+          let x = numbers-below n k _ u v (sym a) in
+          rw (kind-is m n k kind first size listed zone place rows d v (x .2), vertices-is m n k kind first size listed zone place rows d v (x .2), place-is m n k kind first size listed zone place rows d v (x .2))
+
+      -- the robot can't leave there
+      pub step-leave : false ≡ canLeave (kindAt kind zone u) (arrangementOf s (verticesAt first size listed zone u)) r (getD place u 0) → refuse 38 i ≡ stepTests m k (take len (payload f)) i o s
+      step-leave e = tests-leave m k (take len (payload f)) i o s r u v behind (byte-is f len o r most (omega arith) er) (byte-is f len (o + 1) u most (omega arith) eu)
+          (byte-is f len (o + 2) v most (omega arith) ev) (byte-is f len (o + 3) behind most (omega arith) eb) long (sym (a ∙ sized)) (sym b) (sym (e ∙ left))
+
+      -- what is left is the entry
+      pub step-enter : (x : Outcome ℕ) → true ≡ canLeave (kindAt kind zone u) (arrangementOf s (verticesAt first size listed zone u)) r (getD place u 0)
+          → x ≡ entryTests (kindAt kind zone v) (arrangementOf s (verticesAt first size listed zone v)) (take len (payload f)) i o r (getD place v 0) behind → x ≡ stepTests m k (take len (payload f)) i o s
+      step-enter x e t = t ∙ entered i o r behind
+          ∙ tests-enter m k (take len (payload f)) i o s r u v behind (byte-is f len o r most (omega arith) er) (byte-is f len (o + 1) u most (omega arith) eu)
+          (byte-is f len (o + 2) v most (omega arith) ev) (byte-is f len (o + 3) behind most (omega arith) eb) long (sym (a ∙ sized)) (sym b) (sym (e ∙ left))
+
+-- ---- the moves
+
+-- an empty list names nobody
+numbered-empty : (list : List ℕ) (j : ℕ) → length list ≡ 0 → Numbered list j
+numbered-empty [] j h = numbered-none j
+numbered-empty (x ∷ list) j h = absurd (omega arith)
+
+-- a follow list that is met names robots
+met-numbered : (kind : ℕ) (s : State) (vs : List ℕ) (r j behind : ℕ) (list : List ℕ) → canEnter kind (arrangementOf s vs) r j behind list ≡ true
+    → length list ≡ extraOf kind (arrangementOf s vs) → Numbered list j
+met-numbered kind s vs r j behind list c h = go (eqb kind 3 && lastFree (arrangementOf s vs)) refl h
+  where
+    go : (b : Bool) → (eqb kind 3 && lastFree (arrangementOf s vs)) ≡ b → length list ≡ elim b [ true ↦ length (arrangementOf s vs) | false ↦ 0 ] → Numbered list j
+    go true e h =
+        let t = of-true e in
+        entered-numbered s vs r j behind list (clique-can-enter kind (eqb→eq kind 3 (and-left _ _ t)) (arrangementOf s vs) r j behind list ∙ c) (true-of (and-right _ _ t))
+    go false e h = numbered-empty list j h
+
+module _ (f : List ℕ) (o e : ℕ) (kind first size listed zone place : List ℕ) (s : State) (st : Stepping f o e kind first size listed zone place s) where
+  -- the follow list is in the file
+  pub stepping-room : o + 4 + e ≤ length f / 512 * 504
+  stepping-room = omega (arith, st .passes .long, held-length f (st .len) (st .most), st .most)
+
+  within : o + 4 + e ≤ st .len
+  within = omega (arith, st .passes .long, held-length f (st .len) (st .most))
+
+  module _ (r u v behind : ℕ) (er : r ≡ getD f (wire.placeOf o) 0) (eu : u ≡ getD f (wire.placeOf (o + 1)) 0) (ev : v ≡ getD f (wire.placeOf (o + 2)) 0) (eb : behind ≡ getD f (wire.placeOf (o + 3)) 0) where
+    P : List ℕ
+    P = take (st .len) (payload f)
+
+    taken : Taken (st .map) (st .k) s r u v behind (take e (drop (o + 4) (take (st .len) (payload f))))
+    taken =
+        let a : r ≡ getD (take (st .len) (payload f)) o 0 = byte-is f (st .len) o r (st .most) (omega (arith, within)) er in
+        let b : u ≡ getD (take (st .len) (payload f)) (o + 1) 0 = byte-is f (st .len) (o + 1) u (st .most) (omega (arith, within)) eu in
+        let c : v ≡ getD (take (st .len) (payload f)) (o + 2) 0 = byte-is f (st .len) (o + 2) v (st .most) (omega (arith, within)) ev in
+        let d : behind ≡ getD (take (st .len) (payload f)) (o + 3) 0 = byte-is f (st .len) (o + 3) behind (st .most) (omega (arith, within)) eb in
+        rw (a, b, c, d) (st .passes .taken)
+
+    small-u : u < st .n
+    small-u = omega (arith, taken .from, st .given .vertices)
+
+    small-v : v < st .n
+    small-v = omega (arith, taken .to, st .given .vertices)
+
+    -- both vertices are in the tables
+    pub stepping-from : HasVertex first size listed zone place u
+    stepping-from = has-vertex (st .map) (st .n) (st .k) kind first size listed zone place (st .rows) (st .given) u small-u
+
+    pub stepping-to : HasVertex first size listed zone place v
+    stepping-to = has-vertex (st .map) (st .n) (st .k) kind first size listed zone place (st .rows) (st .given) v small-v
+
+    -- the robot can leave
+    pub stepping-leaves : canLeave (kindAt kind zone u) (arrangementOf s (verticesAt first size listed zone u)) r (getD place u 0) ≡ true
+    stepping-leaves =
+        rw (
+          kind-is (st .map) (st .n) (st .k) kind first size listed zone place (st .rows) (st .given) u small-u,
+          vertices-is (st .map) (st .n) (st .k) kind first size listed zone place (st .rows) (st .given) u small-u,
+          place-is (st .map) (st .n) (st .k) kind first size listed zone place (st .rows) (st .given) u small-u,
+        )
+        (true-of (taken .leaves))
+
+    extra : e ≡ extraOf (kindOf (st .map) (zoneOf (st .map) v)) (arrangementIn (st .map) s (zoneOf (st .map) v))
+    extra = let c : v ≡ getD (take (st .len) (payload f)) (o + 2) 0 = byte-is f (st .len) (o + 2) v (st .most) (omega (arith, within)) ev in rw c (st .passes .extra)
+
+    -- the follow list is no longer than a zone
+    pub stepping-short : e ≤ 128
+    stepping-short = omega (
+      arith,
+      extra,
+      extra-most (kindOf (st .map) (zoneOf (st .map) v)) s (zoneAt (st .map) (zoneOf (st .map) v) .vertices),
+      ap length (vertices-is (st .map) (st .n) (st .k) kind first size listed zone place (st .rows) (st .given) v small-v),
+      stepping-to .here .long,
+    )
+
+    -- and names robots
+    pub stepping-named : Numbered (heldPart f (o + 4 + e) (o + 4) e) (getD place v 0)
+    stepping-named =
+        rw (held-same f (st .len) (o + 4) e (st .most) within, place-is (st .map) (st .n) (st .k) kind first size listed zone place (st .rows) (st .given) v small-v)
+        (met-numbered (kindOf (st .map) (zoneOf (st .map) v)) s (zoneAt (st .map) (zoneOf (st .map) v) .vertices) r (placeOf (st .map) v) behind _ (true-of (taken .enters)) (taken .listed))
+
+    -- leaving, entering and crossing are the step's moves
+    pub stepping-made : st .k ≤ 64 → (w a b c : World) → w .state ≡ s
+        → a ≡ madeAll w (across (verticesAt first size listed zone u) (leaveMoves (kindAt kind zone u) (arrangementOf s (verticesAt first size listed zone u)) r (getD place u 0)))
+        → b ≡ madeAll a (across (verticesAt first size listed zone v) (enterMoves (kindAt kind zone v) (arrangementOf (a .state) (verticesAt first size listed zone v)) (getD place v 0) behind (heldPart f (o + 4 + e) (o + 4) e)))
+        → c ≡ world.made b (mv r u v)
+        → c ≡ madeAll w (stepMoves (st .map) (take (st .len) (payload f)) o e s)
+    stepping-made few w a b c es ea eb′ ec =
+        let k1 = kind-is (st .map) (st .n) (st .k) kind first size listed zone place (st .rows) (st .given) u small-u in
+        let v1 = vertices-is (st .map) (st .n) (st .k) kind first size listed zone place (st .rows) (st .given) u small-u in
+        let p1 = place-is (st .map) (st .n) (st .k) kind first size listed zone place (st .rows) (st .given) u small-u in
+        let k2 = kind-is (st .map) (st .n) (st .k) kind first size listed zone place (st .rows) (st .given) v small-v in
+        let v2 = vertices-is (st .map) (st .n) (st .k) kind first size listed zone place (st .rows) (st .given) v small-v in
+        let p2 = place-is (st .map) (st .n) (st .k) kind first size listed zone place (st .rows) (st .given) v small-v in
+        let hs = held-same f (st .len) (o + 4) e (st .most) within in
+        let q1 : r ≡ getD (take (st .len) (payload f)) o 0 = byte-is f (st .len) o r (st .most) (omega (arith, within)) er in
+        let q2 : u ≡ getD (take (st .len) (payload f)) (o + 1) 0 = byte-is f (st .len) (o + 1) u (st .most) (omega (arith, within)) eu in
+        let q3 : v ≡ getD (take (st .len) (payload f)) (o + 2) 0 = byte-is f (st .len) (o + 2) v (st .most) (omega (arith, within)) ev in
+        let q4 : behind ≡ getD (take (st .len) (payload f)) (o + 3) 0 = byte-is f (st .len) (o + 3) behind (st .most) (omega (arith, within)) eb in
+        rw (← q1, ← q2, ← q3, ← q4)
+        (step-made (st .map) (st .given .accepted) (st .k) few s (st .consistent) r u v behind _ taken w a b c es (rw (k1, v1, p1) at ea) (rw (k2, v2, p2, hs) at eb′) ec)

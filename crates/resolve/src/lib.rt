@@ -1,0 +1,35 @@
+// Plans walked on a state (document 01, "Which moves are written"): every check of a step in document 01's order, and the moves that are written.
+
+//
+//     tests   the tests of a step
+//     step    the moves of a step
+//     walk    the steps, one after the other
+mod step;
+mod tests;
+
+// What a step comes to: it passed, and its follow list has so many bytes; or which of document 01's refusals.
+pub enum StepTest {
+    Passed(usize),
+    Short,
+    Number,
+    Edge,
+    Leave,
+    Enter,
+}
+
+// Why a plan is refused, with the step, the count of steps or the zone; None where it is resolved.
+pub enum PlanFault {
+    None,
+    Short(usize),
+    Number(usize),
+    Edge(usize),
+    Leave(usize),
+    Enter(usize),
+    Goal(usize),
+}
+
+// A plan resolved, with the number of moves made, or why not.
+pub struct Resolved {
+    pub fault: PlanFault,
+    pub count: usize,
+}
