@@ -1,15 +1,14 @@
 -- The robots of a hall and their places, collected place by place.
-use mathlib.Core.Path.{_≡_, refl, ap, ap₂, sym, _∙_}
-use Prim.Native.Nat.{ℕ, zero, suc, _+_, _-_, _<_, _≤_, min}
-use mathlib.Core.List.{List, [], _∷_, _++_, append-assoc, append-nil}
+use mathlib.Core.Path.{_≡_, refl, ap, sym, _∙_}
+use Prim.Native.Nat.{ℕ, suc, _+_, _-_, _<_, _≤_}
+use mathlib.Core.List.{List, _∷_, _++_, append-assoc, append-nil}
 use native.Mathlib.Numerals.{add-one}
 use native.Mathlib.Omega.{arith}
-use lib.ListN.{length, getD, set, take, drop, length-set, drop-of-length-le}
-use lib.Seq.{take-suc-set, take-all}
+use lib.ListN.{length, getD, set, take, drop, drop-of-length-le}
+use lib.Seq.{take-suc-set}
 use Rattle.spec.specs.Arrangement.{Arrangement, order, places}
 use Rattle.spec.specs.State as meaning
 use Rattle.theory.specs.Maps.Cells.{cell-of, cell-none}
-use Rattle.theory.specs.Zones.Hall.Places.{length-places}
 use Rattle.motion.specs.Across.{arrangement-length, arrangement-next}
 
 -- the first n of the lists are an arrangement's robots and their places

@@ -1,13 +1,13 @@
 -- What a hall can reach, as the code counts it.
 use mathlib.Core.Path.{_≡_, refl, ap, ap₂, sym, _∙_}
-use Prim.Native.Nat.{ℕ, zero, suc, _+_, _-_, _<_, _≤_, min}
-use mathlib.Core.Bool.{Bool, true, false}
+use Prim.Native.Nat.{ℕ, suc, _+_, _-_, _<_, _≤_, min}
+use mathlib.Core.Bool.{true, false}
 use mathlib.Core.List.{List, [], _∷_, _++_, append-nil}
 use native.Mathlib.Numerals.{add-one}
 use native.Mathlib.Omega.{arith}
 use native.Mathlib.Decide.{decLt, ℕ-discrete}
 use lib.ListN.{length, getD, take, drop, drop-of-length-le}
-use lib.Dec.{eqb, leb, ltb}
+use lib.Dec.{leb, ltb}
 use lib.Seq.{take-suc, take-all}
 use borrow.Author.Tests.{lt-ltb, le-ltb, le-leb, lt-leb, eq-eqb, ne-eqb}
 use Rattle.spec.specs.Outcome.{_&&_, member, indexOf, sameList}
@@ -75,6 +75,7 @@ module _ (a : Arrangement) (named k lower all : ℕ) (c : Counting a named k low
   }
 
   module _ (r : ℕ) (e : order (drop k a) ≡ r ∷ order (drop (k + 1) a)) where
+    -- one robot more, and one fewer left
     one-more : all + 1 + length (order (drop (k + 1) a)) ≡ length (order a)
     one-more = omega (arith, ap length e, c .count)
 
@@ -160,9 +161,11 @@ member-index x (y ∷ l) = at (ℕ-discrete x y) (member-index x l)
         (h ∙ same-ltb (indexOf x l) (length l) (indexOf x l + 1) (suc (length l)) (λ q. omega arith) (λ q. omega arith))
 
 module _ (a : Arrangement) (named t n : ℕ) (c : Counted a named t n) where
+  -- the named robot is inside where some robot is not before it
   inside : t < n → member named (order a) ≡ true
   inside h = member-index named (order a) ∙ lt-ltb (indexOf named (order a)) (length (order a)) (omega (arith, c .before, c .count))
 
+  -- and is not where all are
   outside : n ≤ t → member named (order a) ≡ false
   outside h = member-index named (order a) ∙ le-ltb (indexOf named (order a)) (length (order a)) (omega (arith, c .before, c .count))
 
@@ -222,10 +225,12 @@ pub record Walking (s g : meaning.State) (vs : List ℕ) (i k : ℕ) : Type 0 wh
   pub first : i < length vs → (meaning.robotOn s (getD vs i 0) ≡ 255 → ⊥)
   pub second : k < length vs → (meaning.robotOn g (getD vs k 0) ≡ 255 → ⊥)
 
+-- rows that begin with the same robot go by the rest
 same-more : (x y : ℕ) (xs ys : List ℕ) → x ≡ y → sameList (x ∷ xs) (y ∷ ys) ≡ sameList xs ys
 unfolding sameList
 same-more x y xs ys e = rw (eq-eqb _ _ e, sameList)
 
+-- rows that begin with different robots differ
 same-other : (x y : ℕ) (xs ys : List ℕ) → (x ≡ y → ⊥) → sameList (x ∷ xs) (y ∷ ys) ≡ false
 unfolding sameList
 same-other x y xs ys n = rw (ne-eqb _ _ n, sameList)
@@ -254,6 +259,7 @@ module _ (s g : meaning.State) (vs : List ℕ) where
             le-leb _ _ l ∙ sym (ap (sameList []) (order-end g vs k l))
 
     module _ (h : i < length vs) (l : k < length vs) (x y : ℕ) (e : x ≡ meaning.robotOn s (getD vs i 0)) (d : y ≡ meaning.robotOn g (getD vs k 0)) where
+      -- the robot at which each row stands, then the rest
       left : order (drop i (meaning.arrangementOf s vs)) ≡ x ∷ order (drop (i + 1) (meaning.arrangementOf s vs))
       left = order-robot s vs i x h e (λ q. w .first h (sym e ∙ q))
 
@@ -285,6 +291,7 @@ unfolding order
 last-robot r l n = last-order (l ++ suc r ∷ []) ∙ ap lastOf (order-append l (suc r ∷ [])) ∙ last-snoc (order l) r n
 
 module _ (s : meaning.State) (vs : List ℕ) where
+  -- one place more
   one-further : (k : ℕ) → k < length vs → take (k + 1) (meaning.arrangementOf s vs)
       ≡ take k (meaning.arrangementOf s vs) ++ meaning.cellOf (meaning.robotOn s (getD vs k 0)) ∷ []
   one-further k h =

@@ -52,18 +52,18 @@ fn goal(t: usize, u: usize, j: usize, i: usize, p: u8) -> u8
 {
     let k = p as usize;
     if i < t {
-        let b = less(j, t - i);
-        if k < b {
+        let most = less(j, t - i);
+        if k < most {
             return p;
         }
-        return b as u8;
+        return most as u8;
     }
     if i < u {
         return j as u8;
     }
-    let b = j + (i - u) + 1;
-    if k < b {
-        return b as u8;
+    let least = j + (i - u) + 1;
+    if k < least {
+        return least as u8;
     }
     p
 }

@@ -1,5 +1,4 @@
 // The robots of a hall with their places, lowest first.
-ghost use mathlib.Core.Path.{_≡_};
 ghost use Prim.Native.Nat.{_≤_};
 ghost use lib.ListN.{length};
 ghost use Rattle.spec.specs.State.{arrangementOf};
@@ -17,7 +16,8 @@ pub fn line_up(s: State, zone: &[u8], robots: &mut [u8], places: &mut [u8]) -> u
     let mut n: usize = 0;
     let mut k: usize = 0;
     while k < zone.len() {
-        let r = robot_on(s, Vertex(zone[k]));
+        let v = zone[k];
+        let r = robot_on(s, Vertex(v));
         let place = k as u8;
         k += 1;
         if r.0 != 255 {

@@ -1,7 +1,6 @@
 // What a hall can reach: its robots keep their order, so that what counts is who stands below and above.
 ghost use mathlib.Core.Path.{_≡_};
-ghost use mathlib.Core.Bool.{Bool, true, false};
-ghost use lib.ListN.{length, take};
+ghost use lib.ListN.{take};
 ghost use Rattle.spec.specs.Arrangement.{lastNamed};
 ghost use Rattle.spec.specs.State.{arrangementOf};
 ghost use Rattle.spec.specs.Hall.{room, hallCanLeave, hallCanEnter, hallCanEnd};

@@ -12,12 +12,13 @@ use motion::vertex_at;
 use numbering::Robot;
 
 // Robot r goes down from a place to a lower one.
-fn lower(run: Run, zone: &[u8], r: Robot, from: usize, to: usize, out: &mut [u8]) -> Run
+fn lower(run: Run, zone: &[u8], r: Robot, from: u8, to: u8, out: &mut [u8]) -> Run
     ensures { λ q. ⌜ worldOf q (now (out .exit)) ≡ madeAll (worldOf run (now (out .entry))) (across (now (zone .entry)) (down (r .0) (from - to) to)) ⌝ }
 {
     let mut run = run;
-    let mut at = from;
-    while to < at {
+    let stop = to as usize;
+    let mut at = from as usize;
+    while stop < at {
         let v = vertex_at(zone, at);
         let w = vertex_at(zone, at - 1);
         run = make(run, r, v, w, out);
@@ -27,12 +28,13 @@ fn lower(run: Run, zone: &[u8], r: Robot, from: usize, to: usize, out: &mut [u8]
 }
 
 // Robot r goes up from a place to a higher one.
-fn raise(run: Run, zone: &[u8], r: Robot, from: usize, to: usize, out: &mut [u8]) -> Run
+fn raise(run: Run, zone: &[u8], r: Robot, from: u8, to: u8, out: &mut [u8]) -> Run
     ensures { λ q. ⌜ worldOf q (now (out .exit)) ≡ madeAll (worldOf run (now (out .entry))) (across (now (zone .entry)) (up (r .0) (to - from) from)) ⌝ }
 {
     let mut run = run;
-    let mut at = from;
-    while at < to {
+    let stop = to as usize;
+    let mut at = from as usize;
+    while at < stop {
         let v = vertex_at(zone, at);
         let w = vertex_at(zone, at + 1);
         run = make(run, r, v, w, out);
@@ -60,7 +62,7 @@ fn lower_all(
         let r = robots[i];
         let p = places[i];
         let q = goals[i];
-        run = lower(run, zone, Robot(r), p as usize, q as usize, out);
+        run = lower(run, zone, Robot(r), p, q, out);
         i += 1;
     }
     run
@@ -80,13 +82,14 @@ fn raise_all(
     ensures { λ q. ⌜ worldOf q (now (out .exit)) ≡ madeAll (worldOf run (now (out .entry))) (across (now (zone .entry)) (raising (tripsOf (now (robots .entry)) (now (places .entry)) (now (goals .entry)) n))) ⌝ }
 {
     let mut run = run;
-    let mut i = n;
-    while 0 < i {
-        i -= 1;
+    let mut left = n;
+    while 0 < left {
+        let i = left - 1;
         let r = robots[i];
         let p = places[i];
         let q = goals[i];
-        run = raise(run, zone, Robot(r), p as usize, q as usize, out);
+        run = raise(run, zone, Robot(r), p, q, out);
+        left -= 1;
     }
     run
 }

@@ -28,11 +28,11 @@ returns-3 : tie.Need-returns-3
 returns-3 c =
     let a = c .before .before .args in omega (arith, goal-on (a .t) (a .u) (a .j) (a .i) (a .p) (omega arith) (c .if3 .taken))
 
-add-b : tie.Need-add-b
-add-b c = search needs
+add-least : tie.Need-add-least
+add-least c = search needs
 
-add-b-2 : tie.Need-add-b-2
-add-b-2 c = search needs
+add-least-2 : tie.Need-add-least-2
+add-least-2 c = search needs
 
 cast-result-3 : tie.Need-cast-result-3
 cast-result-3 c = search needs
@@ -56,8 +56,8 @@ goal-spec =
     returns-2
     cast-result-2
     returns-3
-    add-b
-    add-b-2
+    add-least
+    add-least-2
     cast-result-3
     returns-4
     returns-5)

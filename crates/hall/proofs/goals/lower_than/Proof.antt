@@ -1,7 +1,7 @@
 use borrow.Author.Needs.{needs}
 use native.Mathlib.Omega.{arith}
-use lib.ListN.{take, length-take}
-use Rattle.hall.specs.Goals.{lower-none, lower-named, index-most}
+use lib.ListN.{take}
+use Rattle.hall.specs.Goals.{lower-none, lower-named}
 use Rattle.hall.proofs.goals.lower_than.Statement.{statement}
 use Rattle.hall.proofs.goals.lower_than.Tie as tie
 

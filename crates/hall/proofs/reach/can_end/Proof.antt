@@ -1,9 +1,7 @@
 use borrow.Author.Needs.{needs}
 use native.Mathlib.Omega.{arith}
-use Prim.Native.Nat.{ℕ, _+_, _-_, _≤_, _<_}
-use mathlib.Core.Path.{_≡_, refl, ap, sym, _∙_}
+use Prim.Native.Nat.{_-_}
 use lib.ListN.{length}
-use Rattle.spec.specs.State.{arrangementOf}
 use Rattle.motion.specs.States.{stateOf}
 use Rattle.hall.specs.Reach.{Walking, walk-start, walk-short, walk-end, walk-differ, walk-on}
 use Rattle.hall.proofs.reach.can_end.Statement.{statement}

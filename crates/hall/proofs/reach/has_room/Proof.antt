@@ -1,5 +1,5 @@
 use borrow.Author.Needs.{needs}
-use mathlib.Core.Path.{sym, _∙_}
+use mathlib.Core.Path.{sym}
 use Rattle.hall.specs.Reach.{room-below, room-above, room-outside}
 use Rattle.hall.proofs.reach.has_room.Statement.{statement}
 use Rattle.hall.proofs.reach.has_room.Tie as tie

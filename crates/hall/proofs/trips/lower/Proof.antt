@@ -1,10 +1,8 @@
 use borrow.Author.Needs.{needs}
-use native.Mathlib.Omega.{arith}
-use Prim.Native.Nat.{ℕ, _+_, _-_, _≤_, _<_}
-use mathlib.Core.Path.{_≡_, refl, ap, sym, _∙_}
+use Prim.Native.Nat.{_-_, _≤_}
+use mathlib.Core.Path.{_≡_, refl, ap, _∙_}
 use lib.ListN.{length}
-use mathlib.Core.List.{List}
-use Rattle.spec.specs.Arrangement.{Move, mv}
+use Rattle.spec.specs.Arrangement.{mv}
 use Rattle.spec.specs.State.{across}
 use Rattle.spec.specs.Hall.{down}
 use Rattle.motion.specs.World.{worldOf, made, madeAll, made-none}
@@ -14,11 +12,11 @@ use Rattle.hall.proofs.trips.lower.Statement.{statement}
 use Rattle.hall.proofs.trips.lower.Tie as tie
 
 abbrev Inv-loop : tie.InvT-loop
-Inv-loop zone r from to out₀ run₀ at₀ out run at = (length out ≡ length out₀) × (at ≤ from)
+Inv-loop zone r from to out₀ run₀ stop at₀ out run at = (length out ≡ length out₀) × (at ≤ from)
     × (madeAll (worldOf run out) (across zone (down (r .0) (at - to) to)) ≡ madeAll (worldOf run₀ out₀) (across zone (down (r .0) (from - to) to)))
 
 abbrev μ-loop : tie.MeasureT-loop
-μ-loop zone r from to out₀ run₀ at₀ out run at = at - to
+μ-loop zone r from to out₀ run₀ stop at₀ out run at = at - to
 
 loop-holds : tie.Need-loop-holds Inv-loop μ-loop
 loop-holds c = (refl, search needs, refl)

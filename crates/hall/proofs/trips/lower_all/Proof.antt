@@ -1,6 +1,6 @@
 use borrow.Author.Needs.{needs}
 use native.Mathlib.Omega.{arith}
-use Prim.Native.Nat.{ℕ, _+_, _-_, _≤_, _<_}
+use Prim.Native.Nat.{ℕ, _+_, _-_, _≤_}
 use mathlib.Core.Path.{_≡_, refl, ap, sym, _∙_}
 use lib.ListN.{length, getD}
 use mathlib.Core.List.{List}
@@ -32,12 +32,6 @@ shared-slice-read-p c = search needs
 
 shared-slice-read-q : tie.Need-shared-slice-read-q Inv-loop μ-loop
 shared-slice-read-q c = search needs
-
-cast-lower : tie.Need-cast-lower Inv-loop μ-loop
-cast-lower c = omega (arith, c .before .shared-slice-known6 .given (c .before .before .before .before .loop .i))
-
-cast-lower-2 : tie.Need-cast-lower-2 Inv-loop μ-loop
-cast-lower-2 c = omega (arith, c .shared-slice-known7 .given (c .before .before .before .before .loop .i))
 
 lower-requires : tie.Need-lower-requires Inv-loop μ-loop
 lower-requires c κs = search needs
@@ -87,8 +81,6 @@ lower-all-spec =
     shared-slice-read-r
     shared-slice-read-p
     shared-slice-read-q
-    cast-lower
-    cast-lower-2
     lower-requires
     add-i
     loop-less

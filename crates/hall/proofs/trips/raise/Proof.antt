@@ -1,10 +1,8 @@
 use borrow.Author.Needs.{needs}
-use native.Mathlib.Omega.{arith}
-use Prim.Native.Nat.{ℕ, _+_, _-_, _≤_, _<_}
-use mathlib.Core.Path.{_≡_, refl, ap, sym, _∙_}
+use Prim.Native.Nat.{_+_, _-_, _≤_}
+use mathlib.Core.Path.{_≡_, refl, ap, _∙_}
 use lib.ListN.{length}
-use mathlib.Core.List.{List}
-use Rattle.spec.specs.Arrangement.{Move, mv}
+use Rattle.spec.specs.Arrangement.{mv}
 use Rattle.spec.specs.State.{across}
 use Rattle.spec.specs.Hall.{up}
 use Rattle.motion.specs.World.{worldOf, made, madeAll, made-none}
@@ -14,11 +12,11 @@ use Rattle.hall.proofs.trips.raise.Statement.{statement}
 use Rattle.hall.proofs.trips.raise.Tie as tie
 
 abbrev Inv-loop : tie.InvT-loop
-Inv-loop zone r from to out₀ run₀ at₀ out run at = (length out ≡ length out₀) × (from ≤ at)
+Inv-loop zone r from to out₀ run₀ stop at₀ out run at = (length out ≡ length out₀) × (from ≤ at)
     × (madeAll (worldOf run out) (across zone (up (r .0) (to - at) at)) ≡ madeAll (worldOf run₀ out₀) (across zone (up (r .0) (to - from) from)))
 
 abbrev μ-loop : tie.MeasureT-loop
-μ-loop zone r from to out₀ run₀ at₀ out run at = to - at
+μ-loop zone r from to out₀ run₀ stop at₀ out run at = to - at
 
 loop-holds : tie.Need-loop-holds Inv-loop μ-loop
 loop-holds c = (refl, search needs, refl)

@@ -1,6 +1,6 @@
 use borrow.Author.Needs.{needs}
 use native.Mathlib.Omega.{arith}
-use Prim.Native.Nat.{ℕ, _+_, _-_, _≤_, _<_}
+use Prim.Native.Nat.{ℕ, _+_, _-_, _≤_}
 use mathlib.Core.Path.{_≡_, refl, ap, sym, _∙_}
 use lib.ListN.{length, getD}
 use mathlib.Core.List.{List}
@@ -14,11 +14,11 @@ use Rattle.hall.proofs.trips.raise_all.Statement.{statement}
 use Rattle.hall.proofs.trips.raise_all.Tie as tie
 
 abbrev Inv-loop : tie.InvT-loop
-Inv-loop zone robots places goals n out₀ run₀ i₀ out run i = (length out ≡ length out₀) × (i ≤ n)
-    × (worldOf run out ≡ madeAll (worldOf run₀ out₀) (across zone (raising (tripsFrom robots places goals i n))))
+Inv-loop zone robots places goals n out₀ run₀ left₀ out run left = (length out ≡ length out₀) × (left ≤ n)
+    × (worldOf run out ≡ madeAll (worldOf run₀ out₀) (across zone (raising (tripsFrom robots places goals left n))))
 
 abbrev μ-loop : tie.MeasureT-loop
-μ-loop zone robots places goals n out₀ run₀ i₀ out run i = i
+μ-loop zone robots places goals n out₀ run₀ left₀ out run left = left
 
 loop-holds : tie.Need-loop-holds Inv-loop μ-loop
 loop-holds c =
@@ -40,14 +40,11 @@ shared-slice-read-p c = search needs
 shared-slice-read-q : tie.Need-shared-slice-read-q Inv-loop μ-loop
 shared-slice-read-q c = search needs
 
-cast-raise : tie.Need-cast-raise Inv-loop μ-loop
-cast-raise c = omega (arith, c .before .shared-slice-known6 .given (c .before .before .before .before .loop .i - 1))
-
-cast-raise-2 : tie.Need-cast-raise-2 Inv-loop μ-loop
-cast-raise-2 c = omega (arith, c .shared-slice-known7 .given (c .before .before .before .before .loop .i - 1))
-
 raise-requires : tie.Need-raise-requires Inv-loop μ-loop
 raise-requires c κs = search needs
+
+sub-left : tie.Need-sub-left Inv-loop μ-loop
+sub-left c = search needs
 
 loop-less : tie.Need-loop-less Inv-loop μ-loop
 loop-less c = search needs
@@ -61,15 +58,15 @@ loop-again c =
     let rs = a .robots .now in
     let ps = a .places .now in
     let gs = a .goals .now in
-    let e : o .i - 1 + 1 ≡ o .i = omega arith in
+    let e : o .left - 1 + 1 ≡ o .left = omega arith in
     let h = c .before .before .before .before .before .before .before .before .before .before .before .before .before .before .pre in (
       search needs,
       search needs,
       c .before .before .raise .ensures
-          ∙ made-both w _ z (raising (tripsFrom rs ps gs (o .i - 1 + 1) (a .n))) (up (getD rs (o .i - 1) 0) (getD gs (o .i - 1) 0 - getD ps (o .i - 1) 0) (getD ps (o .i - 1) 0))
+          ∙ made-both w _ z (raising (tripsFrom rs ps gs (o .left - 1 + 1) (a .n))) (up (getD rs (o .left - 1) 0) (getD gs (o .left - 1) 0 - getD ps (o .left - 1) 0) (getD ps (o .left - 1) 0))
           (o .inv .2 ∙ ap (λ (k : ℕ). madeAll w (across z (raising (tripsFrom rs ps gs k (a .n))))) (sym e))
           ∙ ap (λ (ms : List Move). madeAll w (across z ms))
-          (sym (raising-more rs ps gs (a .n) (o .i - 1) (omega arith) (h .0) (h .1) (h .2))),
+          (sym (raising-more rs ps gs (a .n) (o .left - 1) (omega arith) (h .0) (h .1) (h .2))),
     )
 
 same-length : tie.Need-same-length Inv-loop μ-loop
@@ -79,7 +76,7 @@ returns : tie.Need-returns Inv-loop μ-loop
 returns c =
     let a = c .before .before .before .before .before .before .before .args in
     let o = c .before .loop in
-    let e : o .i ≡ 0 = omega arith in
+    let e : o .left ≡ 0 = omega arith in
     o .inv .2 ∙ ap (λ (k : ℕ). madeAll (worldOf (a .run) (a .out .now)) (across (a .zone .now) (raising (tripsFrom (a .robots .now) (a .places .now) (a .goals .now) k (a .n))))) e
 
 pub raise-all-spec : {M : Type 1} → statement M
@@ -93,9 +90,8 @@ raise-all-spec =
     shared-slice-read-r
     shared-slice-read-p
     shared-slice-read-q
-    cast-raise
-    cast-raise-2
     raise-requires
+    sub-left
     loop-less
     loop-again
     same-length
