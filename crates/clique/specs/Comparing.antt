@@ -29,11 +29,13 @@ cells-length n h = length-take-le n noCells h
 
 -- ---- counting
 
+-- a robot counts
 order-taken : (x : ℕ) (a : Arrangement) → x ≢ 0 → order (x ∷ a) ≡ (x - 1) ∷ order a
 unfolding order
 order-taken zero a n = absurd (n refl)
 order-taken (suc r) a n = let e : r ≡ suc r - 1 = omega arith in ap (λ (y : ℕ). y ∷ order a) e
 
+-- an empty place does not
 order-empty : (x : ℕ) (a : Arrangement) → x ≡ 0 → order (x ∷ a) ≡ order a
 unfolding order
 order-empty x a e = rw e
@@ -56,15 +58,18 @@ module _ (a : Arrangement) where
 unfoldable pub among : Arrangement → Arrangement → Bool
 among a g = all (λ r. member r (order g)) (order a)
 
+-- an empty place asks nothing
 among-empty : (x : ℕ) (a g : Arrangement) → x ≡ 0 → among (x ∷ a) g ≡ among a g
 unfolding among order
 among-empty x a g e = rw e
 
+-- a robot that is found asks nothing more
 among-taken : (x : ℕ) (a g : Arrangement) → x ≢ 0 → seek x g < length g → among (x ∷ a) g ≡ among a g
 unfolding among order all
 among-taken zero a g n h = absurd (n refl)
 among-taken (suc r) a g n h = rw (sym (member-seek r g) ∙ lt-ltb _ _ h, all)
 
+-- a robot that is not found decides
 among-missing : (x : ℕ) (a g : Arrangement) → x ≢ 0 → length g ≤ seek x g → among (x ∷ a) g ≡ false
 unfolding among order all
 among-missing zero a g n h = absurd (n refl)
@@ -89,23 +94,28 @@ module _ (a g : Arrangement) where
 
   -- ---- the same robots
 
+  -- not as many
   pub robots-other : length (order a) ≢ length (order g) → false ≡ sameRobots a g
   unfolding sameRobots _&&_
   robots-other n = sym (rw (ne-eqb _ _ n, _&&_))
 
+  -- as many, but some robot is missing in the second
   pub robots-not : length (order a) ≡ length (order g) → false ≡ among a g → false ≡ sameRobots a g
   unfolding sameRobots _&&_ among
   robots-not e d = sym (rw (eq-eqb _ _ e, _&&_, ← d))
 
+  -- as many, none missing in the second: the first decides
   pub robots-same : length (order a) ≡ length (order g) → true ≡ among a g → among g a ≡ sameRobots a g
   unfolding sameRobots _&&_ among
   robots-same e d = sym (rw (eq-eqb _ _ e, _&&_, ← d))
 
   -- ---- the same arrangement
 
+  -- of another length
   pub list-other : length a ≢ length g → false ≡ sameList a g
   list-other n = sym (false-of (λ t. n (ap length (same→eq a g t))))
 
+  -- the same on a place, another, and the end
   pub list-further : (k : ℕ) → k < length a → k < length g → getD a k 0 ≡ getD g k 0 → sameList (drop (k + 1) a) (drop (k + 1) g) ≡ sameList (drop k a) (drop k g)
   unfolding sameList
   list-further k h l e = sym (ap₂ sameList (next a k h) (next g k l) ∙ rw (eq-eqb _ _ e, sameList))
@@ -120,6 +130,7 @@ module _ (a g : Arrangement) where
 
   -- ---- is the goal in the configuration
 
+  -- full: the arrangement itself; else the robots
   pub can-end-full : true ≡ full a → sameList a g ≡ cliqueCanEnd a g
   unfolding cliqueCanEnd
   can-end-full e = rw (← e, cliqueCanEnd)

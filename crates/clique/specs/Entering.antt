@@ -63,11 +63,13 @@ pub never : true ≡ false → ⊥
 never e = of-false {b = true} e tt
 
 -- the names as cells, as the code reads them
+-- where no name is 255
 plain : (list : List ℕ) → ((i : ℕ) → getD list i 0 ≢ 255) → map cellOf list ≡ named list
 unfolding named
 plain [] h = refl
 plain (x ∷ l) h = ap₂ (λ (c : ℕ) (a : Arrangement). c ∷ a) (cell-of (h 0)) (plain l (λ i. h (suc i)))
 
+-- with place j emptied, the name there does not matter
 pub named-cells : (list : List ℕ) (j : ℕ) → Numbered list j → set (map cellOf list) j 0 ≡ set (named list) j 0
 unfolding named
 named-cells [] j h = refl
@@ -162,8 +164,18 @@ pub entered-numbered : (s : State) (vs : List ℕ) (r j behind : ℕ) (list : Li
 entered-numbered s vs r j behind list e d i n q =
     named-nobody s vs list j i n q (entered (arrangementOf s vs) r j behind list (of-true e) (sym d))
 
+-- what a caller of `enter` has: the step was let in, and the list is empty where the clique is not filled
+pub enter-allowed : (s : State) (vs : List ℕ) (r j behind : ℕ) (list : List ℕ)
+    → cliqueCanEnter (arrangementOf s vs) r j behind list ≡ true → (lastFree (arrangementOf s vs) ≡ false → list ≡ []) → Numbered list j
+enter-allowed s vs r j behind list e none = pick (lastFree (arrangementOf s vs)) refl
+  where
+    pick : (b : Bool) → lastFree (arrangementOf s vs) ≡ b → Numbered list j
+    pick true d = entered-numbered s vs r j behind list e d
+    pick false d = rw (none d) (numbered-none j)
+
 -- ---- the follow list of a drawn plan
 
+-- one place of the robots by place
 robots-cons : (x : ℕ) (a : Arrangement) → robotsOf (cellOf x ∷ a) ≡ x ∷ robotsOf a
 unfolding robotsOf
 robots-cons x a = pick (ℕ-discrete x 255)
@@ -172,6 +184,7 @@ robots-cons x a = pick (ℕ-discrete x 255)
     pick (yes e) = ap (λ (c : ℕ). robotsOf (c ∷ a)) (cell-none e) ∙ ap (λ (y : ℕ). y ∷ robotsOf a) (sym e)
     pick (no n) = ap (λ (c : ℕ). robotsOf (c ∷ a)) (cell-of n)
 
+-- the robots by place are those on the zone's vertices
 robots-all : (s : State) (vs : List ℕ) → map (robotOn s) vs ≡ robotsOf (arrangementOf s vs)
 unfolding robotsOf arrangementOf
 robots-all s [] = refl

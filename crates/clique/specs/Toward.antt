@@ -32,18 +32,21 @@ one-empty a g i h = pick (decLt i (length a))
 
 -- ---- an open target
 
+-- a place that is taken, or nobody's target, is passed over
 open-cons : (x y : ℕ) (a g : Arrangement) → (x ≡ 0 → y ≡ 0) → openTarget (x ∷ a) (y ∷ g) ≡ suc (openTarget a g)
 unfolding openTarget
 open-cons x zero a g h = refl
 open-cons zero (suc y) a g h = let e = h refl in absurd (omega arith)
 open-cons (suc x) (suc y) a g h = refl
 
+-- a place that is empty and somebody's target is found
 open-found : (x y : ℕ) (a g : Arrangement) → x ≡ 0 → 0 < y → openTarget (x ∷ a) (y ∷ g) ≡ 0
 unfolding openTarget
 open-found zero zero a g p q = absurd (not-suc-le-zero q)
 open-found zero (suc y) a g p q = refl
 open-found (suc x) y a g p q = absurd (omega arith)
 
+-- no place, none found
 open-none : (a g : Arrangement) → (a ≡ []) ⊎ (g ≡ []) → openTarget a g ≡ 0
 unfolding openTarget
 open-none a g (inr e) = rw e
@@ -72,11 +75,13 @@ unfolding lesser
 offNext x zero best = best
 offNext x (suc r) best = elim (eqb x (suc r)) [ true ↦ best | false ↦ lesser (suc r) best ]
 
+-- one place of the lowest robot off target
 pub off-cons : (x y : ℕ) (a g : Arrangement) → lowestOff (x ∷ a) (y ∷ g) ≡ offNext x y (lowestOff a g)
 unfolding lowestOff offNext
 off-cons x zero a g = refl
 off-cons x (suc r) a g = refl
 
+-- no place, nobody off target
 off-none : (a g : Arrangement) → (a ≡ []) ⊎ (g ≡ []) → lowestOff a g ≡ 0
 unfolding lowestOff
 off-none a g (inr e) = rw e

@@ -6,7 +6,7 @@ use Rattle.spec.specs.Arrangement.{seek}
 use Rattle.spec.specs.State.{arrangementOf}
 use Rattle.motion.specs.States.{stateOf}
 use Rattle.clique.specs.Places.{free-seek}
-use lib.Count.{trailingZeros, trailing-le}
+use lib.Count.{trailingZeros, trailing-le, leading-le}
 use Rattle.theory.specs.Maps.Cells.{cell-none}
 use Rattle.clique.proofs.placing.first_free.Statement.{statement}
 use Rattle.clique.proofs.placing.first_free.Tie as tie
@@ -15,7 +15,7 @@ free-word-requires : tie.Need-free-word-requires
 free-word-requires c κs = search needs
 
 cast-result : tie.Need-cast-result
-cast-result c = omega (arith, trailing-le 64 (c .before .free-word .result))
+cast-result c = omega (arith, trailing-le 64 (c .before .free-word .result), leading-le 64 (c .before .free-word .result))
 
 returns : tie.Need-returns
 returns c = let e = c .before .free-word .ensures in
