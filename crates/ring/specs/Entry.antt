@@ -91,6 +91,7 @@ pub record Behind (a : Arrangement) (j p : ℕ) : Type 0 where
   pub somebody : p ≢ j → cell a p ≡ suc (ringBehind a j)
 
 module _ (s : State) (vs : List ℕ) (j : ℕ) (h : j < length vs) where
+  -- place j is one of the arrangement's
   inside : j < length (arrangementOf s vs)
   inside = omega (arith, arrangement-length s vs)
 
@@ -101,6 +102,7 @@ module _ (s : State) (vs : List ℕ) (j : ℕ) (h : j < length vs) where
       ∙ ap (λ (m : ℕ). cell (arrangementOf s vs) (wrap m (j + (k + 1)))) (arrangement-length s vs)
       ∙ arrangement-at s vs (wrap (length vs) (j + (k + 1))) (wrap-under (length vs) j (k + 1) h (omega arith))
 
+  -- the opened ring has one place fewer
   opened-size : suc (length (opened j (arrangementOf s vs))) ≡ length vs
   opened-size = length-opened j (arrangementOf s vs) inside ∙ arrangement-length s vs
 
@@ -108,6 +110,7 @@ module _ (s : State) (vs : List ℕ) (j : ℕ) (h : j < length vs) where
   pub walk-start : j ≡ wrap (length vs) (j + (length vs - 1 + 1))
   walk-start = ⊎-elim (λ w. absurd (omega arith)) (λ w. omega arith) (wrap-is (length vs) (j + (length vs - 1 + 1)))
 
+  -- all other places are yet to be looked at
   pub walk-all : lastNamed (take (length vs - 1) (opened j (arrangementOf s vs))) ≡ ringBehind (arrangementOf s vs) j
   unfolding ringBehind
   walk-all = ap lastNamed (take-all (length vs - 1) (opened j (arrangementOf s vs)) (omega (arith, opened-size)))
@@ -158,6 +161,7 @@ module _ (s : State) (vs : List ℕ) (j : ℕ) (h : j < length vs) where
   pub behind-none : (p : ℕ) → Behind (arrangementOf s vs) j p → p ≡ j → 255 ≡ ringBehind (arrangementOf s vs) j
   behind-none p B e = sym (B .nobody e)
 
+  -- the robot on the place found is the one behind
   pub behind-robot : (p x : ℕ) → Behind (arrangementOf s vs) j p → x ≡ robotOn s (getD vs p 0) → p ≢ j → x ≡ ringBehind (arrangementOf s vs) j
   behind-robot p x B e n =
       cell-robot x (ringBehind (arrangementOf s vs) j)

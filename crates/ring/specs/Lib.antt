@@ -5,3 +5,5 @@ pub mod Pushes
 pub mod Reading
 pub mod Entry
 pub mod Turns
+pub mod Comparing
+pub mod Ending

@@ -76,6 +76,7 @@ next-round m i h = ⊎-elim (λ w. Round.line (inl (w .1))) (λ w. let e : suc i
 pub next-first : (m i : ℕ) → i < m → i + 1 ≡ m → 0 ≡ nextPlace m i
 next-first m i h e = ⊎-elim (λ w. omega arith) (λ w. omega arith) (wrap-is m (suc i))
 
+-- any other place is followed by the one listed after it
 pub next-listed : (m i : ℕ) → i < m → (i + 1 ≡ m → ⊥) → i + 1 ≡ nextPlace m i
 next-listed m i h e = ⊎-elim (λ w. omega arith) (λ w. absurd (e (omega arith))) (wrap-is m (suc i))
 
@@ -83,6 +84,7 @@ next-listed m i h e = ⊎-elim (λ w. omega arith) (λ w. absurd (e (omega arith
 pub previous-last : (m i : ℕ) → i < m → i ≡ 0 → m - 1 ≡ previousPlace m i
 previous-last m i h e = ⊎-elim (λ w. omega arith) (λ w. omega arith) (wrap-is m (i + (m - 1)))
 
+-- before any other place stands the one listed before it
 pub previous-listed : (m i : ℕ) → i < m → (i ≡ 0 → ⊥) → i - 1 ≡ previousPlace m i
 previous-listed m i h e = ⊎-elim (λ w. absurd (e (omega arith))) (λ w. omega arith) (wrap-is m (i + (m - 1)))
 
@@ -91,6 +93,15 @@ pub ahead-up : (m p j : ℕ) → j < m → p ≤ j → j - p ≡ ahead m p j
 unfolding ahead
 ahead-up m p j h e = ⊎-elim (λ w. omega arith) (λ w. omega arith) (wrap-is m (m + j - p))
 
+-- how far on is a place that is listed before it
 pub ahead-round : (m p j : ℕ) → p < m → j < p → m - p + j ≡ ahead m p j
 unfolding ahead
 ahead-round m p j h e = ⊎-elim (λ w. omega arith) (λ w. omega arith) (wrap-is m (m + j - p))
+
+-- so many places on from p: before the last place, and round
+pub around-up : (m p k : ℕ) → p < m → k < m - p → p + k ≡ wrap m (p + k)
+around-up m p k h l = ⊎-elim (λ w. sym (w .1)) (λ w. omega arith) (wrap-is m (p + k))
+
+-- so many places on, past the last one
+pub around-over : (m p k : ℕ) → p < m → m - p ≤ k → k - (m - p) ≡ wrap m (p + k)
+around-over m p k h l = ⊎-elim (λ w. omega arith) (λ w. omega arith) (wrap-is m (p + k))

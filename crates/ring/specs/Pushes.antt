@@ -56,6 +56,7 @@ push-step w u v s vs p k r f t l er ef et eu ev =
 
 -- ---- pushes keep to the ring
 
+-- the moves of a run stay inside the ring
 inside-shove : (m p : ℕ) → p < m → (rs : List ℕ) (k : ℕ) → ((i : ℕ) → i < length rs → getD rs i 0 ≢ 255) → k + length rs ≤ m
     → Inside m (map (λ v. inRing m p v) (shove k rs))
 unfolding shove inRing

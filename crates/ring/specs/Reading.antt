@@ -38,6 +38,7 @@ full-free : (a : Arrangement) → full (zero ∷ a) ≡ false
 unfolding full order
 full-free a = ne-eqb (length (order a)) (suc (length a)) (λ q. omega (arith, order-short a))
 
+-- a robot on the first place does not matter
 full-taken : (r : ℕ) (a : Arrangement) → full (suc r ∷ a) ≡ full a
 unfolding full order
 full-taken r a = suc-eqb (length (order a)) (length a)
@@ -47,13 +48,25 @@ unfoldable pub vacant : Arrangement → Bool
 unfolding order
 vacant a = eqb (length (order a)) 0
 
+-- an empty first place does not matter
 vacant-free : (a : Arrangement) → vacant (zero ∷ a) ≡ vacant a
 unfolding vacant order
 vacant-free a = refl
 
+-- a robot on the first place stands there
 vacant-taken : (r : ℕ) (a : Arrangement) → vacant (suc r ∷ a) ≡ false
 unfolding vacant order
 vacant-taken r a = ne-eqb (suc (length (order a))) 0 (λ q. omega arith)
+
+-- a search ends inside, or at the size
+pub seek-within : (x : ℕ) (a : Arrangement) → seek x a ≤ length a
+unfolding seek
+seek-within x [] = omega arith
+seek-within x (y ∷ a) = at (ℕ-discrete x y) (seek-within x a)
+  where
+    at : Dec (x ≡ y) → seek x a ≤ length a → seek x (y ∷ a) ≤ suc (length a)
+    at (yes e) i = omega (arith, seek-same x y a e)
+    at (no n) i = omega (arith, seek-other x y a n)
 
 -- what a search finds stands there
 pub seek-finds : (x : ℕ) (a : Arrangement) → seek x a < length a → cell a (seek x a) ≡ x
@@ -84,15 +97,18 @@ module _ (s : State) (vs : List ℕ) where
       seek-at (suc r) (arrangementOf s vs) i (omega (arith, arrangement-length s vs))
       (sym (arrangement-at s vs i h ∙ ap cellOf (sym e ∙ sym d) ∙ cell-of n))
 
+  -- the search goes one place further
   pub robot-past : (i r x : ℕ) → i < length vs → x ≡ robotOn s (getD vs i 0) → r ≢ x
       → i + 1 + seek (suc r) (drop (i + 1) (arrangementOf s vs)) ≡ i + seek (suc r) (drop i (arrangementOf s vs))
   robot-past i r x h e n =
       seek-past (suc r) (arrangementOf s vs) i (omega (arith, arrangement-length s vs))
       (λ q. n (sym (cell-robot x r (ap cellOf e ∙ sym (arrangement-at s vs i h) ∙ sym q) .0)))
 
+  -- the search ends at the size
   pub robot-end : (i r : ℕ) → length vs ≤ i → i ≡ i + seek (suc r) (drop i (arrangementOf s vs))
   robot-end i r h = seek-end (suc r) (arrangementOf s vs) i (omega (arith, arrangement-length s vs))
 
+  -- nobody is robot 255
   pub robot-none : (r : ℕ) → r ≡ 255 → length vs ≡ seek (suc r) (arrangementOf s vs)
   unfolding arrangementOf seek
   robot-none r e = rw e (go vs)
@@ -109,11 +125,13 @@ module _ (s : State) (vs : List ℕ) where
       go (yes h) q = never-256 (robotOn s (getD vs j 0)) (sym (arrangement-at s vs j h) ∙ q)
       go (no h) q = omega (arith, q, List·getD-eq-default (arrangementOf s vs) 0 {n = j} (omega (arith, arrangement-length s vs)))
 
+  -- nobody stands past the end
   pub stands-past : (r j : ℕ) → length vs ≤ j → false ≡ eqb (cell (arrangementOf s vs) j) (suc r)
   stands-past r j h =
       let e : cell (arrangementOf s vs) j ≡ 0 = List·getD-eq-default (arrangementOf s vs) 0 {n = j} (omega (arith, arrangement-length s vs)) in
       sym (ne-eqb (cell (arrangementOf s vs) j) (suc r) (λ q. omega arith))
 
+  -- a robot stands on its own place and on no other
   pub stands-there : (r x j : ℕ) → j < length vs → x ≡ robotOn s (getD vs j 0) → r ≢ 255 → eqb x r ≡ eqb (cell (arrangementOf s vs) j) (suc r)
   stands-there r x j h e n = go (ℕ-discrete x r)
     where
@@ -129,10 +147,12 @@ module _ (s : State) (vs : List ℕ) where
       → drop i (arrangementOf s vs) ≡ suc x ∷ drop (i + 1) (arrangementOf s vs)
   places-taken i x h e n = arrangement-next s vs i x h e ∙ ap (λ (y : ℕ). y ∷ drop (i + 1) (arrangementOf s vs)) (cell-of n)
 
+  -- the places from place i on, where nobody stands on it
   pub places-free : (i x : ℕ) → i < length vs → x ≡ robotOn s (getD vs i 0) → x ≡ 255
       → drop i (arrangementOf s vs) ≡ zero ∷ drop (i + 1) (arrangementOf s vs)
   places-free i x h e n = arrangement-next s vs i x h e ∙ ap (λ (y : ℕ). y ∷ drop (i + 1) (arrangementOf s vs)) (cell-none n)
 
+  -- past the end there are none
   pub places-over : (i : ℕ) → length vs ≤ i → drop i (arrangementOf s vs) ≡ []
   places-over i h = drop-of-length-le (arrangementOf s vs) {i = i} (omega (arith, arrangement-length s vs))
 
@@ -140,10 +160,12 @@ module _ (s : State) (vs : List ℕ) where
   pub full-stops : (i x : ℕ) → i < length vs → x ≡ robotOn s (getD vs i 0) → x ≡ 255 → false ≡ full (drop i (arrangementOf s vs))
   full-stops i x h e n = sym (ap full (places-free i x h e n) ∙ full-free (drop (i + 1) (arrangementOf s vs)))
 
+  -- a taken place is passed
   pub full-on : (i x : ℕ) → i < length vs → x ≡ robotOn s (getD vs i 0) → x ≢ 255
       → full (drop (i + 1) (arrangementOf s vs)) ≡ full (drop i (arrangementOf s vs))
   full-on i x h e n = sym (ap full (places-taken i x h e n) ∙ full-taken x (drop (i + 1) (arrangementOf s vs)))
 
+  -- all places are taken
   pub full-over : (i : ℕ) → length vs ≤ i → true ≡ full (drop i (arrangementOf s vs))
   unfolding full order
   full-over i h = sym (ap full (places-over i h))
@@ -152,10 +174,12 @@ module _ (s : State) (vs : List ℕ) where
   pub vacant-stops : (i x : ℕ) → i < length vs → x ≡ robotOn s (getD vs i 0) → x ≢ 255 → false ≡ vacant (drop i (arrangementOf s vs))
   vacant-stops i x h e n = sym (ap vacant (places-taken i x h e n) ∙ vacant-taken x (drop (i + 1) (arrangementOf s vs)))
 
+  -- an empty place is passed
   pub vacant-on : (i x : ℕ) → i < length vs → x ≡ robotOn s (getD vs i 0) → x ≡ 255
       → vacant (drop (i + 1) (arrangementOf s vs)) ≡ vacant (drop i (arrangementOf s vs))
   vacant-on i x h e n = sym (ap vacant (places-free i x h e n) ∙ vacant-free (drop (i + 1) (arrangementOf s vs)))
 
+  -- all places are empty
   pub vacant-over : (i : ℕ) → length vs ≤ i → true ≡ vacant (drop i (arrangementOf s vs))
   unfolding vacant order
   vacant-over i h = sym (ap vacant (places-over i h))

@@ -44,10 +44,12 @@ turn-free a j named e =
     let d : eqb (cell a j) 0 ≡ true = eq-eqb (cell a j) 0 e in
     (ap (λ b. b && eqb (ringBehind a j) named) d, ap (λ (b : Bool). elim b as (λ b. ℕ) [ true ↦ seek (suc (ringBehind a j)) a | false ↦ j ]) d)
 
+-- no push where the place is ready
 turn-open : (a : Arrangement) (j named : ℕ) → entryOpen a j named ≡ true → turnAt a j named ≡ length a
 unfolding turnAt
 turn-open a j named e = rw (e, turnAt)
 
+-- else the push begins at its place
 turn-shut : (a : Arrangement) (j named : ℕ) → entryOpen a j named ≡ false → turnAt a j named ≡ turnPlace a j
 unfolding turnAt
 turn-shut a j named e = rw (e, turnAt)
@@ -59,6 +61,7 @@ none-left : (xs ys : List ℕ) → xs ++ ys ≡ [] → xs ≡ []
 none-left [] ys e = refl
 none-left (x ∷ xs) ys e = absurd (let d : suc (length (xs ++ ys)) ≡ 0 = ap length e in omega arith)
 
+-- and none in the other part
 none-right : (xs ys : List ℕ) → xs ++ ys ≡ [] → ys ≡ []
 none-right [] ys e = e
 none-right (x ∷ xs) ys e = absurd (let d : suc (length (xs ++ ys)) ≡ 0 = ap length e in omega arith)
@@ -189,17 +192,20 @@ turn-rest w vs j named n h e =
 -- ---- where the push begins, as the code finds it
 
 module _ (s : State) (vs : List ℕ) (j named : ℕ) (h : j < length vs) where
+  -- at the place itself, where it is taken
   pub begins-taken : (x : ℕ) → x ≡ robotOn s (getD vs j 0) → x ≢ 255 → j ≡ turnAt (arrangementOf s vs) j named
   begins-taken x e n =
       let t = turn-taken (arrangementOf s vs) j named x (arrangement-at s vs j h ∙ ap cellOf (sym e) ∙ cell-of n) in
       sym (turn-shut (arrangementOf s vs) j named (t .0) ∙ t .1)
 
+  -- nowhere, where it is empty and the named robot behind it
   pub begins-nowhere : (x b : ℕ) → x ≡ robotOn s (getD vs j 0) → x ≡ 255 → b ≡ ringBehind (arrangementOf s vs) j → b ≡ named
       → length vs ≡ turnAt (arrangementOf s vs) j named
   begins-nowhere x b e n d q =
       let t = turn-free (arrangementOf s vs) j named (arrangement-at s vs j h ∙ ap cellOf (sym e) ∙ cell-none n) in
       sym (turn-open (arrangementOf s vs) j named (t .0 ∙ eq-eqb _ _ (sym d ∙ q)) ∙ arrangement-length s vs)
 
+  -- at the robot behind, where it is another one
   pub begins-behind : (x b : ℕ) → x ≡ robotOn s (getD vs j 0) → x ≡ 255 → b ≡ ringBehind (arrangementOf s vs) j → b ≢ named
       → seek (suc b) (arrangementOf s vs) ≡ turnAt (arrangementOf s vs) j named
   begins-behind x b e n d q =

@@ -4,21 +4,29 @@
 //     reading   what is read of a ring's arrangement
 //     pushing   robots pushed forward
 //     turning   the robot behind a place, and where the next push of entering begins
+//     comparing whether goals are in a ring's configuration
+//     ending    the lowest-numbered robot, and the other places as a hall
 ghost use mathlib.Core.Path.{_≡_};
 ghost use mathlib.Core.Bool.{true};
 ghost use Prim.Native.Nat.{_≤_, _<_};
 ghost use lib.ListN.{length};
-ghost use Rattle.spec.specs.Ring.{ringCanLeave, ringLeave, ringCanEnter, ringEnter};
+ghost use Rattle.spec.specs.Ring.{ringCanLeave, ringLeave, ringCanEnter, ringEnter, ringCanEnd, ringEnd};
 ghost use Rattle.spec.specs.State.{across, arrangementOf};
 ghost use Rattle.motion.specs.States.{stateOf};
 ghost use Rattle.motion.specs.World.{worldOf, madeAll};
 ghost use Rattle.motion.specs.Coupling.{Listed};
 
+mod comparing;
+mod ending;
 pub mod places;
 pub mod pushing;
 mod reading;
 pub mod turning;
 
+use comparing::same_cells;
+use comparing::same_turned;
+use ending::lowest;
+use ending::open_at;
 use motion::Run;
 use motion::State;
 use numbering::Robot;
@@ -86,4 +94,35 @@ pub fn enter(run: Run, zone: &[u8], j: usize, behind: u8, out: &mut [u8]) -> Run
         left -= 1;
     }
     run
+}
+
+// Are the goals in the ring's configuration: the order of the robots up to turning, or if full the arrangement.
+pub fn can_end(s: State, zone: &[u8], goals: State) -> bool
+    ensures { λ b. ⌜ b ≡ ringCanEnd (arrangementOf (stateOf s) (now (zone .entry))) (arrangementOf (stateOf goals) (now (zone .entry))) ⌝ }
+{
+    if is_full(s, zone) {
+        return same_cells(s, goals, zone);
+    }
+    same_turned(s, goals, zone)
+}
+
+// "Ending: push the ring's lowest-numbered cart to its goal, then treat the other places .. as a hall": the robots go to
+// their goals, which can be reached.
+pub fn end(run: Run, zone: &[u8], goals: State, out: &mut [u8]) -> Run
+    requires { ⌜ length (now zone) ≤ 128 ⌝ }
+    requires { ⌜ Listed 128 (now zone) ⌝ }
+    requires { ⌜ ringCanEnd (arrangementOf (stateOf (run .state)) (now zone)) (arrangementOf (stateOf goals) (now zone)) ≡ true ⌝ }
+    ensures { λ q. ⌜ worldOf q (now (out .exit)) ≡ madeAll (worldOf run (now (out .entry))) (across (now (zone .entry)) (ringEnd (arrangementOf (stateOf (run .state)) (now (zone .entry))) (arrangementOf (stateOf goals) (now (zone .entry))))) ⌝ }
+{
+    let s = run.state;
+    let r = lowest(s, zone);
+    if r.0 == 255 {
+        return run;
+    }
+    let j = place_of(goals, zone, r);
+    let pushed = push_to(run, zone, r, j, out);
+    let mut others = [0u8; 128];
+    open_at(zone, j, &mut others);
+    let n = zone.len() - 1;
+    hall::end(pushed, &others[..n], goals, out)
 }

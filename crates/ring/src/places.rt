@@ -1,7 +1,7 @@
 // Places in a circle: forward means listed order, wrapping. A comparison, no remainder.
 ghost use mathlib.Core.Path.{_≡_};
-ghost use Prim.Native.Nat.{_<_};
-ghost use Rattle.spec.specs.Ring.{ahead};
+ghost use Prim.Native.Nat.{_+_, _<_};
+ghost use Rattle.spec.specs.Ring.{ahead, wrap};
 ghost use Rattle.ring.specs.Places.{nextPlace, previousPlace};
 
 // The place after place i of m.
@@ -36,4 +36,15 @@ pub fn distance(m: usize, p: usize, j: usize) -> usize
         return j - p;
     }
     m - p + j
+}
+
+// The place k on from p, of m places.
+pub fn around(m: usize, p: usize, k: usize) -> usize
+    requires { ⌜ p < m ⌝ }
+    ensures { λ i. ⌜ i ≡ wrap m (p + k) ⌝ }
+{
+    if k < m - p {
+        return p + k;
+    }
+    k - (m - p)
 }
