@@ -17,9 +17,9 @@ use Rattle.spec.specs.State.{State, cellOf, robotOn, arrangementOf}
 use Rattle.spec.specs.Ring.{wrap, frame, turned, ringCanEnd}
 use Rattle.theory.specs.Basics.Tests.{of-true, true-of, false-of, same→eq, eq→same}
 use Rattle.theory.specs.Basics.Lists.{In, in-head, in-left, in-right, in-append, index-here, index-further}
-use Rattle.theory.specs.Maps.State.{cell-of, cell-none, cell-robot, cell-empty}
+use Rattle.theory.specs.Maps.Cells.{cell-of, cell-none, cell-robot, cell-empty}
 use Rattle.theory.specs.Zones.Arrangements.{order-append, cell→member, member→cell, cell-inside}
-use Rattle.theory.specs.Zones.CliqueMoves.{seek-ok}
+use Rattle.theory.specs.Basics.Searches.{seek-ok}
 use Rattle.motion.specs.Across.{arrangement-length, arrangement-at, arrangement-next}
 use Rattle.motion.specs.Cells.{seek-same, seek-other}
 use Rattle.ring.specs.Places.{wrap-is, wrap-in}

@@ -19,11 +19,11 @@ use Rattle.spec.specs.State.{State, cellOf, robotOn, arrangementOf, acrossMove,
 use Rattle.spec.specs.Ring.{wrap, inRing, pushes, ahead, pushTo, opened, lowest, turned, ringCanEnd, ringEndAt, ringEnd}
 use Rattle.theory.specs.Basics.Tests.{of-true, true-of, same→eq}
 use Rattle.theory.specs.Basics.Lists.{Each, none, _&&&_, _&_, each-append, In, in-head, in-tail, in-left, in-right, in-append}
-use Rattle.theory.specs.Maps.State.{cell-of, cell-none}
+use Rattle.theory.specs.Maps.Cells.{cell-of, cell-none}
 use Rattle.theory.specs.Zones.Arrangements.{cell→member, member→cell, cell-inside}
-use Rattle.theory.specs.Zones.CliqueMoves.{seek-ok}
-use Rattle.theory.specs.Zones.RingTurns.{Within}
-use Rattle.theory.specs.Zones.RingPush.{length-opened}
+use Rattle.theory.specs.Basics.Searches.{seek-ok}
+use Rattle.theory.specs.Zones.Ring.Frames.{Within}
+use Rattle.theory.specs.Zones.Ring.Opened.{length-opened}
 use Rattle.motion.specs.World.{World, madeAll, made-none}
 use Rattle.motion.specs.Across.{made-both, across-nil, arrangement-length}
 use Rattle.motion.specs.Coupling.{Listed, Inside, arranged}

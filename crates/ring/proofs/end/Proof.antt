@@ -6,7 +6,7 @@ use lib.ListN.{length, length-map}
 use Rattle.spec.specs.State.{arrangementOf, across}
 use Rattle.motion.specs.States.{stateOf, robotNo, length-mapped}
 use Rattle.motion.specs.World.{worldOf, madeAll}
-use Rattle.theory.specs.Maps.State.{cell-of}
+use Rattle.theory.specs.Maps.Cells.{cell-of}
 use Rattle.ring.specs.Ending.{ends-nobody, ends-stands, ends-goal, end-both, opened-count}
 use Rattle.ring.proofs.end.Statement.{statement}
 use Rattle.ring.proofs.end.Tie as tie
