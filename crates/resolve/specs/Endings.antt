@@ -33,6 +33,16 @@ use Rattle.motion.specs.World.{World, madeAll, made-append, state-is}
 unfoldable pub offZone : ℕ → ℕ → Outcome (Unit {0})
 offZone z n = elim (ltb z n) [ true ↦ refuse 50 z | false ↦ ok tt ]
 
+-- a zone is
+pub off-some : (z n : ℕ) → z < n → offZone z n ≡ refuse 50 z
+unfolding offZone
+off-some z n h = rw (lt-ltb z n h, offZone)
+
+-- none is
+pub off-none : (z n : ℕ) → n ≤ z → offZone z n ≡ ok tt
+unfolding offZone
+off-none z n h = rw (le-ltb z n h, offZone)
+
 -- the zones from zone i on
 pub zones-next : (m : Map) (i : ℕ) → i < zoneCount m → drop i (m .zones) ≡ zoneAt m i ∷ drop (i + 1) (m .zones)
 unfolding zoneAt

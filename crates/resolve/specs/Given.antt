@@ -7,10 +7,12 @@ use native.Mathlib.Omega.{arith}
 use lib.ListN.{length, getD, take, drop}
 use lib.Dec.{T, eqb, ltb, ltb→lt}
 use borrow.Author.Tests.{le-ltb, lt-ltb, eq-eqb, ne-eqb}
-use Rattle.spec.specs.Outcome.{_&&_}
+use Rattle.spec.specs.Outcome.{ok, _&&_}
+use Rattle.spec.specs.Run.{goalsFrom}
 use Rattle.spec.specs.Layout.{Map, Placing, joined, zoneOf, zoneAt}
 use Rattle.spec.specs.State as meaning
-use Rattle.spec.specs.ZoneKind.{canLeave}
+use Rattle.spec.specs.ZoneKind.{canEnd}
+use Rattle.zones.specs.Kinds.{endMoves}
 use Rattle.spec.specs.Terms.{zoneCount, kindOf, sizeOf, placeOf, arrangementIn}
 use Rattle.theory.specs.Basics.Tests.{of-true, and-left, and-right}
 use Rattle.theory.specs.Maps.Layout.{Accepted}
@@ -54,7 +56,24 @@ pub record Stepping (f : List ℕ) (o e : ℕ) (kind first size listed zone plac
   pub most : len ≤ length f / 512 * 504
   pub passes : Passes map k (take len (payload f)) o s e
 
--- the same, with a placing
+-- the tables are those of some accepted map of `zones` zones, with a state of its robots
+pub record Goaled (zones : ℕ) (kind first size listed : List ℕ) (s : meaning.State) : Type 0 where
+  pub map : Map
+  pub n : ℕ
+  pub k : ℕ
+  pub zone : List ℕ
+  pub place : List ℕ
+  pub rows : List (List ℕ)
+  pub given : Given map n k kind first size listed zone place rows
+  pub count : zoneCount map ≡ zones
+  pub consistent : Consistent map k s
+
+-- the same, from which the goals can be reached
+pub record Bringing (zones : ℕ) (kind first size listed : List ℕ) (s g : meaning.State) : Type 0 where
+  pub on : Goaled zones kind first size listed s
+  pub pass : goalsFrom 0 (on .map .zones) s g ≡ ok tt
+
+-- the tables and rows are some accepted map's, with a placing on it
 pub record Placement (n zones k : ℕ) (kind first size listed zone place : List ℕ) (rows : List (List ℕ)) (starts goals : List ℕ) : Type 0 where
   pub map : Map
   pub placing : Placing
@@ -101,6 +120,17 @@ module _ (m : Map) (n k : ℕ) (kind first size listed zone place : List ℕ) (r
         long = rw e (zone-small m (d .accepted) z);
         once = rw e (zone-listed m (d .accepted) z l);
       }
+
+  module _ (z : ℕ) (h : z < zoneCount m) (s g : meaning.State) where
+    -- the test of a zone's goals, by the tables
+    pub ends-is : canEnd (getD kind z 0) (meaning.arrangementOf s (verticesIn first size listed z)) (meaning.arrangementOf g (verticesIn first size listed z))
+        ≡ canEnd (kindOf m z) (arrangementIn m s z) (arrangementIn m g z)
+    ends-is = rw (← d .tables .kinds z h, ← d .tables .vertices z h)
+
+    -- the moves to them
+    pub end-moves-is : meaning.across (verticesIn first size listed z) (endMoves (getD kind z 0) (meaning.arrangementOf s (verticesIn first size listed z)) (meaning.arrangementOf g (verticesIn first size listed z)))
+        ≡ meaning.across (zoneAt m z .vertices) (endMoves (kindOf m z) (arrangementIn m s z) (arrangementIn m g z))
+    end-moves-is = rw (← d .tables .kinds z h, ← d .tables .vertices z h)
 
   module _ (v : ℕ) (h : v < n) where
     small : v < m .size

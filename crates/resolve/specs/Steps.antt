@@ -6,7 +6,9 @@ use Prim.Native.Nat.{ℕ, _+_, _-_, _*_, _/_, _<_, _≤_}
 use native.Mathlib.Omega.{arith}
 use lib.ListN.{length, getD, take, drop}
 use lib.Dec.{eqb, eqb→eq}
-use Rattle.spec.specs.Outcome.{Outcome, refuse, _&&_}
+use mathlib.Core.Logic.{⊎-elim}
+use types.Run.{OneOf}
+use Rattle.spec.specs.Outcome.{Outcome, ok, refuse, _&&_}
 use Rattle.spec.specs.Layout.{Map, zoneOf, zoneAt}
 use Rattle.spec.specs.Arrangement.{Arrangement, Move, mv, lastFree}
 use Rattle.spec.specs.State.{State, arrangementOf, across}
@@ -22,10 +24,14 @@ use Rattle.motion.specs.World.{World, madeAll}
 use Rattle.motion.specs.World as world
 use Rattle.clique.specs.Entering.{Numbered, numbered-none, entered-numbered}
 use Rattle.zones.specs.Kinds.{leaveMoves, enterMoves, clique-can-enter}
-use Rattle.resolve.specs.Tests.{numbered, crosses, entryTests, stepTests, stepMoves, Passes, tests-number, tests-edge, tests-leave, tests-enter}
+use Rattle.resolve.specs.Tests.{testOf, tests-passed, numbered, crosses, entryTests, stepTests, stepMoves, Passes, tests-number, tests-edge, tests-leave, tests-enter}
 use Rattle.resolve.specs.Given.{Given, Shown, Stepping, HasVertex, kindAt, verticesAt, has-vertex, kind-is, vertices-is, place-is, numbers-below}
 use Rattle.resolve.specs.Held.{heldPart, held-same, extra-most}
-use Rattle.resolve.specs.Walk.{step-made}
+use Rattle.resolve.specs.Walk.{step-made, Walking, WalkOf, walk-more, walk-refused}
+use Rattle.resolve.specs.declared.StepTest.{StepTest}
+use Rattle.resolve.specs.declared.StepTest.the-variants as step
+use Rattle.resolve.specs.declared.PlanFault.{PlanFault}
+use Rattle.resolve.specs.declared.PlanFault.the-variants as plan
 
 -- a byte of the payload that the code read in the file
 byte-is : (f : List ℕ) (len o x : ℕ) → len ≤ length f / 512 * 504 → o < len → x ≡ getD f (wire.placeOf o) 0 → x ≡ getD (take len (payload f)) o 0
@@ -185,3 +191,64 @@ module _ (f : List ℕ) (o e : ℕ) (kind first size listed zone place : List �
         let q4 : behind ≡ getD (take (st .len) (payload f)) (o + 3) 0 = byte-is f (st .len) (o + 3) behind (st .most) (omega (arith, within)) eb in
         rw (← q1, ← q2, ← q3, ← q4)
         (step-made (st .map) (st .given .accepted) (st .k) few s (st .consistent) r u v behind _ taken w a b c es (rw (k1, v1, p1) at ea) (rw (k2, v2, p2, hs) at eb′) ec)
+
+-- ---- a walk's steps
+
+-- a test that passed
+pub test-passed : (i : ℕ) (t : StepTest) (e : ℕ) (x : Outcome ℕ) → testOf i t ≡ x → t ≡ step.Passed e → x ≡ ok e
+test-passed i t e x h q = sym h ∙ ap (testOf i) q
+
+-- the refusal of step i that did not pass
+abbrev pub refusalOf : ℕ → StepTest → PlanFault
+refusalOf i (step.Passed e) = plan.None
+refusalOf i step.Short = plan.Short i
+refusalOf i step.Number = plan.Number i
+refusalOf i step.Edge = plan.Edge i
+refusalOf i step.Leave = plan.Leave i
+refusalOf i step.Enter = plan.Enter i
+
+module _ (m : Map) (n k : ℕ) (kind first size listed zone place : List ℕ) (rows : List (List ℕ)) (d : Given m n k kind first size listed zone place rows)
+    (f : List ℕ) (len : ℕ) (most : len ≤ length f / 512 * 504) (count : ℕ) (w₀ : World) (i o : ℕ) (w : World) (g : Walking m k (take len (payload f)) count w₀ i o w) where
+  -- the next step is in the payload
+  pub walking-offset : o ≤ len
+  walking-offset = omega (arith, g .offset, held-length f len most)
+
+  module _ (t : StepTest) (h : testOf i t ≡ stepTests m k (take len (payload f)) i o (w .state)) where
+    -- a step that passed
+    pub walking-passes : (e : ℕ) → t ≡ step.Passed e → Passes m k (take len (payload f)) o (w .state) e
+    walking-passes e q = tests-passed m k (take len (payload f)) i o (w .state) e (test-passed i t e _ h q)
+
+    -- what it needs
+    pub walking-step : (e : ℕ) → t ≡ step.Passed e → Stepping f o e kind first size listed zone place (w .state)
+    walking-step e q = record {
+      map = m;
+      n = n;
+      k = k;
+      rows = rows;
+      given = d;
+      consistent = g .consistent;
+      len = len;
+      most = most;
+      passes = walking-passes e q;
+    }
+
+    -- its moves are made
+    pub walking-next : (e : ℕ) → t ≡ step.Passed e → (u : World) → i < count → u ≡ madeAll w (stepMoves m (take len (payload f)) o e (w .state))
+        → Walking m k (take len (payload f)) count w₀ (i + 1) (o + 4 + e) u
+    walking-next e q u l x = walk-more m (d .accepted) k (d .few) (take len (payload f)) count w₀ i o w g e u l (test-passed i t e _ h q) x
+
+    -- a step that did not pass is refused
+    pub walking-stop : ((e : ℕ) → t ≡ step.Passed e → ⊥) → i < count → WalkOf m k (take len (payload f)) count w₀ (refusalOf i t) o w
+    walking-stop z l = stop t z h
+      where
+        stop : (t : StepTest) → ((e : ℕ) → t ≡ step.Passed e → ⊥) → testOf i t ≡ stepTests m k (take len (payload f)) i o (w .state) → WalkOf m k (take len (payload f)) count w₀ (refusalOf i t) o w
+        stop (step.Passed e) z h = absurd (z e refl)
+        stop step.Short z h = walk-refused m (d .accepted) k (d .few) (take len (payload f)) count w₀ i o w g (plan.Short i) 35 o l (sym h) (λ r. refl)
+        stop step.Number z h = walk-refused m (d .accepted) k (d .few) (take len (payload f)) count w₀ i o w g (plan.Number i) 36 o l (sym h) (λ r. refl)
+        stop step.Edge z h = walk-refused m (d .accepted) k (d .few) (take len (payload f)) count w₀ i o w g (plan.Edge i) 37 o l (sym h) (λ r. refl)
+        stop step.Leave z h = walk-refused m (d .accepted) k (d .few) (take len (payload f)) count w₀ i o w g (plan.Leave i) 38 o l (sym h) (λ r. refl)
+        stop step.Enter z h = walk-refused m (d .accepted) k (d .few) (take len (payload f)) count w₀ i o w g (plan.Enter i) 39 o l (sym h) (λ r. refl)
+
+-- one of the other variants did not pass
+pub other-tag : (x : ℕ) → OneOf (1 ∷ 2 ∷ 3 ∷ 4 ∷ 5 ∷ []) x → x ≡ 0 → ⊥
+other-tag x h e = ⊎-elim (λ a. omega arith) (⊎-elim (λ a. omega arith) (⊎-elim (λ a. omega arith) (⊎-elim (λ a. omega arith) (λ a. omega arith)))) h

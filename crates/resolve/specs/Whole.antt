@@ -4,6 +4,8 @@ use mathlib.Core.Bool.{true, false}
 use mathlib.Core.List.{List, [], _∷_, _++_}
 use Prim.Native.Nat.{ℕ, zero, suc, _+_, _-_, _*_, _/_, _≤_, _<_}
 use native.Mathlib.Omega.{arith}
+use mathlib.Core.Logic.{⊎-elim}
+use types.Run.{OneOf}
 use lib.ListN.{length, getD, take, length-take}
 use lib.Seq.{length-take-le}
 use lib.Dec.{eqb, ltb}
@@ -27,7 +29,12 @@ use Rattle.wire.specs.Laid.{laidAll}
 use Rattle.motion.specs.World.{World, madeAll, made-append, count-is, buffer-is, buffer-length, mostMoves}
 use Rattle.resolve.specs.Fault.{faultOf}
 use Rattle.resolve.specs.Walk.{WalkOf}
-use Rattle.resolve.specs.Endings.{offZone}
+use Rattle.theory.specs.Maps.Placing.{Placed}
+use Rattle.theory.specs.Maps.Consistent.{Consistent}
+use Rattle.theory.specs.Plans.Resolve.{start-tracks}
+use Rattle.motion.specs.World.{worldOf}
+use Rattle.motion.specs.declared.Run.{Run}
+use Rattle.resolve.specs.Endings.{offZone, off-some, off-none}
 use Rattle.resolve.specs.declared.PlanFault.{PlanFault}
 use Rattle.resolve.specs.declared.PlanFault.the-variants as plan
 use Rattle.resolve.specs.declared.Resolved.{Resolved}
@@ -210,3 +217,39 @@ module _ (m : Map) (pl : Placing) (f : List ℕ) (len : ℕ) (most : len ≤ len
 
           onto : madeAll w (endingsFrom (m .zones) (w .state) g) ≡ madeAll (fresh s o₀) xs
           onto = ap (λ (t : World). madeAll t (endingsFrom (m .zones) (w .state) g)) (d .reached) ∙ sym (made-append (fresh s o₀) (d .moves) (endingsFrom (m .zones) (w .state) g))
+
+-- ---- the goals
+
+module _ (m : Map) (g : meaning.State) (w₀ : World) (z zones : ℕ) (e : offZone z zones ≡ goalsFrom 0 (m .zones) (w₀ .state) g) where
+  -- a zone is off its goals
+  pub finish-off : z < zones → FinishOf m g w₀ (record { fault = plan.Goal z; count = 0 }) (w₀ .buffer)
+  finish-off h = record {
+    answer = sym (off-some z zones h) ∙ e;
+    reached = λ q. let y : _≡_ {A = ℕ} 0 1 = cc in absurd (omega arith);
+    long = refl;
+  }
+
+  -- the goals can be reached
+  pub finish-pass : zones ≤ z → goalsFrom 0 (m .zones) (w₀ .state) g ≡ ok tt
+  finish-pass h = sym e ∙ off-none z zones h
+
+  -- they are
+  pub finish-done : zones ≤ z → (q : Run) (o : List ℕ) → worldOf q o ≡ madeAll w₀ (endingsFrom (m .zones) (w₀ .state) g) → FinishOf m g w₀ (record { fault = plan.None; count = q .count }) o
+  finish-done h q o x = record {
+    answer = sym (finish-pass h);
+    reached = λ _. (_, x);
+    long = ap (λ (t : World). length (t .buffer)) x ∙ buffer-length w₀ (endingsFrom (m .zones) (w₀ .state) g);
+  }
+
+-- the starts of an accepted placing are consistent
+pub start-consistent : (m : Map) → Accepted m → (pl : Placing) → Placed (m .size) pl → (k : ℕ) (starts : List ℕ) (s : meaning.State) → k ≤ length starts → pl .starts ≡ take k starts
+    → s ≡ meaning.standing (take k starts) → Consistent m k s
+start-consistent m g pl pd k starts s l es ess =
+    let ek : length (pl .starts) ≡ k = ap length es ∙ length-take-le k starts l in
+    let e : meaning.standing (pl .starts) ≡ s = ap meaning.standing es ∙ sym ess in
+    rw (ek, e) at (start-tracks m g pl pd .consistent)
+
+-- one of the other variants is a refusal
+pub other-fault : (x : ℕ) → OneOf (1 ∷ 2 ∷ 3 ∷ 4 ∷ 5 ∷ 6 ∷ []) x → x ≡ 0 → ⊥
+other-fault x h e =
+    ⊎-elim (λ a. omega arith) (⊎-elim (λ a. omega arith) (⊎-elim (λ a. omega arith) (⊎-elim (λ a. omega arith) (⊎-elim (λ a. omega arith) (λ a. omega arith))))) h

@@ -1,11 +1,17 @@
 // Plans walked on a state (document 01, "Which moves are written"): every check of a step in document 01's order, and the moves that are written.
-
 //
 //     tests   the tests of a step
 //     step    the moves of a step
 //     walk    the steps, one after the other
+//     ending  the goals, tested and reached
+//     plan    the whole plan
+mod ending;
+pub mod plan;
 mod step;
 mod tests;
+pub mod walk;
+
+pub use plan::resolve_plan;
 
 // What a step comes to: it passed, and its follow list has so many bytes; or which of document 01's refusals.
 pub enum StepTest {
@@ -32,4 +38,11 @@ pub enum PlanFault {
 pub struct Resolved {
     pub fault: PlanFault,
     pub count: usize,
+}
+
+// How far a walk came: why it stopped, the state and the count of moves that it reached, and the offset after the steps that passed.
+pub struct Walked {
+    pub fault: PlanFault,
+    pub run: motion::Run,
+    pub next: usize,
 }
