@@ -1,5 +1,5 @@
 -- The goals tested and reached zone by zone.
-use mathlib.Core.Path.{_≡_, refl, sym, ap, ap₂, _∙_}
+use mathlib.Core.Path.{_≡_, refl, sym, ap, _∙_}
 use mathlib.Core.Bool.{Bool, true, false}
 use mathlib.Core.List.{List, [], _∷_, _++_}
 use Prim.Native.Nat.{ℕ, zero, suc, _+_, _-_, _≤_, _<_}
@@ -7,16 +7,16 @@ use native.Mathlib.Nat.{le-refl}
 use native.Mathlib.Omega.{arith}
 use native.Mathlib.Numerals.{add-one}
 use native.Mathlib.Decide.{ℕ-discrete}
-use lib.ListN.{length, getD, drop, drop-of-length-le}
+use lib.ListN.{drop, drop-of-length-le}
 use lib.Seq.{drop-cons}
 use lib.Dec.{T, ltb}
 use borrow.Author.Tests.{lt-ltb, le-ltb}
 use Rattle.spec.specs.Outcome.{Outcome, ok, refuse, _>>_, check}
-use Rattle.spec.specs.Layout.{Map, Zone, zoneAt}
+use Rattle.spec.specs.Layout.{Map, zoneAt}
 use Rattle.spec.specs.Arrangement.{Move}
 use Rattle.spec.specs.ZoneKind.{canEnd}
 use Rattle.spec.specs.ZoneKind as meaning
-use Rattle.spec.specs.State.{State, movedAll, across, arrangementOf}
+use Rattle.spec.specs.State.{State, movedAll, across}
 use Rattle.spec.specs.Run.{goalsFrom, endingsFrom}
 use Rattle.spec.specs.Terms.{arrangementIn, zoneCount, kindOf}
 use Rattle.theory.specs.Basics.Tests.{of-true, true-of}

@@ -1,5 +1,4 @@
 -- Document 01's number and place for each refusal of a plan.
-use Prim.Native.Nat.{ℕ}
 use Rattle.spec.specs.Outcome.{Outcome, ok, refuse}
 use Rattle.resolve.specs.declared.PlanFault.{PlanFault}
 use Rattle.resolve.specs.declared.PlanFault.the-variants as plan

@@ -1,11 +1,11 @@
 -- What a plan is walked on: an accepted map in tables and rows, and a placing on it.
-use mathlib.Core.Path.{_≡_, refl, sym, ap, _∙_}
-use mathlib.Core.Bool.{Bool, true, false, not}
-use mathlib.Core.List.{List, []}
+use mathlib.Core.Path.{_≡_, sym, ap, _∙_}
+use mathlib.Core.Bool.{true, false, not}
+use mathlib.Core.List.{List}
 use Prim.Native.Nat.{ℕ, _+_, _-_, _*_, _/_, _<_, _≤_}
 use native.Mathlib.Omega.{arith}
 use lib.ListN.{length, getD, take, drop}
-use lib.Dec.{T, eqb, ltb, ltb→lt}
+use lib.Dec.{ltb→lt}
 use borrow.Author.Tests.{le-ltb, lt-ltb, eq-eqb, ne-eqb}
 use Rattle.spec.specs.Outcome.{ok, _&&_}
 use Rattle.spec.specs.Run.{goalsFrom}
@@ -13,12 +13,11 @@ use Rattle.spec.specs.Layout.{Map, Placing, joined, zoneOf, zoneAt}
 use Rattle.spec.specs.State as meaning
 use Rattle.spec.specs.ZoneKind.{canEnd}
 use Rattle.zones.specs.Kinds.{endMoves}
-use Rattle.spec.specs.Terms.{zoneCount, kindOf, sizeOf, placeOf, arrangementIn}
+use Rattle.spec.specs.Terms.{zoneCount, kindOf, placeOf, arrangementIn}
 use Rattle.theory.specs.Basics.Tests.{of-true, and-left, and-right}
 use Rattle.theory.specs.Maps.Layout.{Accepted}
 use Rattle.theory.specs.Maps.Placing.{Placed}
 use Rattle.theory.specs.Maps.Consistent.{Consistent}
-use Rattle.theory.specs.Plans.Taken.{Taken}
 use Rattle.adjacency.specs.Rows.{Shows, bitAt, shows-joined}
 use Rattle.motion.specs.Coupling.{Listed}
 use Rattle.zones.specs.Tables.{Tables, verticesIn, zone-listed, zone-small}
@@ -133,6 +132,7 @@ module _ (m : Map) (n k : ℕ) (kind first size listed zone place : List ℕ) (r
     end-moves-is = rw (← d .tables .kinds z h, ← d .tables .vertices z h)
 
   module _ (v : ℕ) (h : v < n) where
+    -- it is one of the map's
     small : v < m .size
     small = rw (d .vertices) h
 
@@ -144,6 +144,7 @@ module _ (m : Map) (n k : ℕ) (kind first size listed zone place : List ℕ) (r
     pub place-is : getD place v 0 ≡ placeOf m v
     place-is = d .tables .places v small
 
+    -- its zone is one of the map's
     in-range : getD zone v 0 < zoneCount m
     in-range = rw zone-is (d .accepted .placed v small .0)
 
@@ -176,9 +177,11 @@ module _ (m : Map) (n k : ℕ) (kind first size listed zone place : List ℕ) (r
   crosses-none u v e = rw (joined-is u v, e)
 
   module _ (u v : ℕ) (hu : u < n) (hv : v < n) (e : bitAt rows u v ≡ true) where
+    -- the zone of from
     zone-u : getD zone u 0 ≡ zoneOf m u
     zone-u = zone-is u hu
 
+    -- the zone of to
     zone-v : getD zone v 0 ≡ zoneOf m v
     zone-v = zone-is v hv
 
@@ -205,16 +208,17 @@ module _ (n k r u v : ℕ) where
   unfolding numbered _&&_
   numbered-from h l = rw (lt-ltb r k h, le-ltb u n l)
 
-  -- to is none, or all are there
+  -- to is none of the vertices
   pub numbered-to : r < k → u < n → n ≤ v → false ≡ numbered n k r u v
   unfolding numbered _&&_
   numbered-to h l x = rw (lt-ltb r k h, lt-ltb u n l, le-ltb v n x)
 
+  -- all are there
   pub numbered-all : r < k → u < n → v < n → true ≡ numbered n k r u v
   unfolding numbered _&&_
   numbered-all h l x = rw (lt-ltb r k h, lt-ltb u n l, lt-ltb v n x)
 
-  -- all are there
+  -- what that says
   pub numbers-below : numbered n k r u v ≡ true → (r < k) × (u < n) × (v < n)
   unfolding numbered
   numbers-below e =

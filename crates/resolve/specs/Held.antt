@@ -1,15 +1,15 @@
 -- Parts of a payload that stands in a file, copied.
-use mathlib.Core.Path.{_≡_, refl, sym, ap, _∙_}
+use mathlib.Core.Path.{_≡_, sym, ap, _∙_}
 use mathlib.Core.Bool.{Bool, true, false}
 use mathlib.Core.List.{List}
 use Prim.Native.Nat.{ℕ, _+_, _-_, _*_, _/_, _≤_, _<_}
 use native.Mathlib.Omega.{arith}
 use native.Mathlib.Decide.{ℕ-discrete}
-use lib.ListN.{length, getD, set, take, drop, length-set, length-drop}
+use lib.ListN.{length, getD, set, take, drop, length-drop}
 use lib.Seq.{length-take-le, getD-take, getD-drop, ext-getD, getD-set-same, getD-set-other}
 use lib.Dec.{eqb}
 use Rattle.spec.specs.Outcome.{_&&_}
-use Rattle.spec.specs.Arrangement.{Arrangement, lastFree}
+use Rattle.spec.specs.Arrangement.{lastFree}
 use Rattle.spec.specs.State.{State, arrangementOf}
 use Rattle.theory.specs.Zones.Crossing.{extraOf}
 use Rattle.motion.specs.Across.{arrangement-length}
@@ -51,14 +51,16 @@ held-same f len from n most h =
 
 -- ---- the length of a follow list
 
+-- an arrangement is as long as its zone
 extra-is : (s : State) (vs : List ℕ) (b : Bool) (n : ℕ) → n ≡ elim b [ true ↦ length vs | false ↦ 0 ] → n ≡ elim b [ true ↦ length (arrangementOf s vs) | false ↦ 0 ]
 extra-is s vs true n e = e ∙ sym (arrangement-length s vs)
 extra-is s vs false n e = e
 
--- the step fills a clique, or does not
+-- the step fills a clique
 pub extra-filled : (kind : ℕ) (s : State) (vs : List ℕ) → (eqb kind 3 && lastFree (arrangementOf s vs)) ≡ true → length vs ≡ extraOf kind (arrangementOf s vs)
 extra-filled kind s vs e = extra-is s vs (eqb kind 3 && lastFree (arrangementOf s vs)) (length vs) (rw e)
 
+-- it does not
 pub extra-none : (kind : ℕ) (s : State) (vs : List ℕ) → (eqb kind 3 && lastFree (arrangementOf s vs)) ≡ false → 0 ≡ extraOf kind (arrangementOf s vs)
 extra-none kind s vs e = extra-is s vs (eqb kind 3 && lastFree (arrangementOf s vs)) 0 (rw e)
 

@@ -1,5 +1,5 @@
 -- A step by the tables and by the bytes of the file: its tests, and what its moves need.
-use mathlib.Core.Path.{_≡_, refl, sym, ap, ap₂, _∙_}
+use mathlib.Core.Path.{_≡_, refl, sym, ap, _∙_}
 use mathlib.Core.Bool.{Bool, true, false}
 use mathlib.Core.List.{List, [], _∷_}
 use Prim.Native.Nat.{ℕ, _+_, _-_, _*_, _/_, _<_, _≤_}
@@ -10,12 +10,11 @@ use mathlib.Core.Logic.{⊎-elim}
 use types.Run.{OneOf}
 use Rattle.spec.specs.Outcome.{Outcome, ok, refuse, _&&_}
 use Rattle.spec.specs.Layout.{Map, zoneOf, zoneAt}
-use Rattle.spec.specs.Arrangement.{Arrangement, Move, mv, lastFree}
+use Rattle.spec.specs.Arrangement.{mv, lastFree}
 use Rattle.spec.specs.State.{State, arrangementOf, across}
 use Rattle.spec.specs.ZoneKind.{canLeave, canEnter}
 use Rattle.spec.specs.Terms.{kindOf, placeOf, arrangementIn}
 use Rattle.theory.specs.Basics.Tests.{of-true, true-of, and-left, and-right}
-use Rattle.theory.specs.Maps.Consistent.{Consistent}
 use Rattle.theory.specs.Zones.Crossing.{extraOf}
 use Rattle.theory.specs.Plans.Taken.{Taken}
 use Rattle.wire.specs.Payload.{payload, held-length, held-byte}
@@ -49,9 +48,11 @@ shown-vertices n k kind first size listed zone place rows d r u v e =
 module _ (m : Map) (n k : ℕ) (kind first size listed zone place : List ℕ) (rows : List (List ℕ)) (d : Given m n k kind first size listed zone place rows)
     (f : List ℕ) (len : ℕ) (most : len ≤ length f / 512 * 504) (i o : ℕ) (h : o + 4 ≤ len) (s : State) (r u v behind : ℕ)
     (er : r ≡ getD f (wire.placeOf o) 0) (eu : u ≡ getD f (wire.placeOf (o + 1)) 0) (ev : v ≡ getD f (wire.placeOf (o + 2)) 0) (eb : behind ≡ getD f (wire.placeOf (o + 3)) 0) where
+  -- the four bytes are there
   long : o + 4 ≤ length (take len (payload f))
   long = omega (arith, held-length f len most)
 
+  -- the numbers are below those of the map
   sized : numbered n k r u v ≡ numbered (m .size) k r u v
   sized = ap (λ (x : ℕ). numbered x k r u v) (sym (d .vertices))
 
@@ -67,12 +68,14 @@ module _ (m : Map) (n k : ℕ) (kind first size listed zone place : List ℕ) (r
         (byte-is f len (o + 2) v most (omega arith) ev) (byte-is f len (o + 3) behind most (omega arith) eb) long (sym (a ∙ sized)) (sym e)
 
     module _ (b : true ≡ crosses m u v) where
+      -- leaving, by the tables
       left : canLeave (kindAt kind zone u) (arrangementOf s (verticesAt first size listed zone u)) r (getD place u 0)
           ≡ canLeave (kindOf m (zoneOf m u)) (arrangementIn m s (zoneOf m u)) r (placeOf m u)
       left =
           let x = numbers-below n k r u v (sym a) in
           rw (kind-is m n k kind first size listed zone place rows d u (x .1), vertices-is m n k kind first size listed zone place rows d u (x .1), place-is m n k kind first size listed zone place rows d u (x .1))
 
+      -- entering, by the tables
       entered : (i o r behind : ℕ) → entryTests (kindAt kind zone v) (arrangementOf s (verticesAt first size listed zone v)) (take len (payload f)) i o r (getD place v 0) behind
           ≡ entryTests (kindOf m (zoneOf m v)) (arrangementIn m s (zoneOf m v)) (take len (payload f)) i o r (placeOf m v) behind
       entered i o r behind =
@@ -114,13 +117,12 @@ module _ (f : List ℕ) (o e : ℕ) (kind first size listed zone place : List �
   pub stepping-room : o + 4 + e ≤ length f / 512 * 504
   stepping-room = omega (arith, st .passes .long, held-length f (st .len) (st .most), st .most)
 
+  -- the step is in the payload
   within : o + 4 + e ≤ st .len
   within = omega (arith, st .passes .long, held-length f (st .len) (st .most))
 
   module _ (r u v behind : ℕ) (er : r ≡ getD f (wire.placeOf o) 0) (eu : u ≡ getD f (wire.placeOf (o + 1)) 0) (ev : v ≡ getD f (wire.placeOf (o + 2)) 0) (eb : behind ≡ getD f (wire.placeOf (o + 3)) 0) where
-    P : List ℕ
-    P = take (st .len) (payload f)
-
+    -- it passed, by the bytes that the code read
     taken : Taken (st .map) (st .k) s r u v behind (take e (drop (o + 4) (take (st .len) (payload f))))
     taken =
         let a : r ≡ getD (take (st .len) (payload f)) o 0 = byte-is f (st .len) o r (st .most) (omega (arith, within)) er in
@@ -129,16 +131,19 @@ module _ (f : List ℕ) (o e : ℕ) (kind first size listed zone place : List �
         let d : behind ≡ getD (take (st .len) (payload f)) (o + 3) 0 = byte-is f (st .len) (o + 3) behind (st .most) (omega (arith, within)) eb in
         rw (a, b, c, d) (st .passes .taken)
 
+    -- from is a vertex
     small-u : u < st .n
     small-u = omega (arith, taken .from, st .given .vertices)
 
+    -- to is a vertex
     small-v : v < st .n
     small-v = omega (arith, taken .to, st .given .vertices)
 
-    -- both vertices are in the tables
+    -- from is in the tables
     pub stepping-from : HasVertex first size listed zone place u
     stepping-from = has-vertex (st .map) (st .n) (st .k) kind first size listed zone place (st .rows) (st .given) u small-u
 
+    -- to as well
     pub stepping-to : HasVertex first size listed zone place v
     stepping-to = has-vertex (st .map) (st .n) (st .k) kind first size listed zone place (st .rows) (st .given) v small-v
 
@@ -152,6 +157,7 @@ module _ (f : List ℕ) (o e : ℕ) (kind first size listed zone place : List �
         )
         (true-of (taken .leaves))
 
+    -- the length of the follow list
     extra : e ≡ extraOf (kindOf (st .map) (zoneOf (st .map) v)) (arrangementIn (st .map) s (zoneOf (st .map) v))
     extra = let c : v ≡ getD (take (st .len) (payload f)) (o + 2) 0 = byte-is f (st .len) (o + 2) v (st .most) (omega (arith, within)) ev in rw c (st .passes .extra)
 

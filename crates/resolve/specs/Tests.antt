@@ -1,13 +1,13 @@
 -- The tests of a step, apart from its moves: "In a step: four bytes, 36, 37, 38, full target, follow list present, 39."
-use mathlib.Core.Path.{_≡_, refl, sym, ap, _∙_}
+use mathlib.Core.Path.{_≡_, refl, sym, _∙_}
 use mathlib.Core.Bool.{Bool, true, false, not}
-use mathlib.Core.List.{List, [], _∷_, _++_}
-use Prim.Native.Nat.{ℕ, zero, suc, _+_, _-_, _≤_, _<_}
+use mathlib.Core.List.{List}
+use Prim.Native.Nat.{ℕ, _+_, _-_, _≤_, _<_}
 use native.Mathlib.Omega.{arith}
 use lib.ListN.{length, getD, take, drop, length-drop}
 use lib.Seq.{length-take-le}
-use lib.Dec.{T, eqb, ltb, leb, leb→le, ltb→lt, T-not}
-use borrow.Author.Tests.{le-leb, lt-leb, le-ltb, lt-ltb, eq-eqb, ne-eqb}
+use lib.Dec.{eqb, ltb, leb, leb→le, ltb→lt, T-not}
+use borrow.Author.Tests.{le-leb, lt-leb}
 use Rattle.spec.specs.Outcome.{Outcome, ok, refuse, _>>=_, _>>_, check, _&&_}
 use Rattle.spec.specs.Layout.{Map, joined, zoneOf}
 use Rattle.spec.specs.Arrangement.{Arrangement, Move, full}
@@ -15,8 +15,8 @@ use Rattle.spec.specs.ZoneKind.{canLeave, canEnter}
 use Rattle.spec.specs.State.{State, movedAll}
 use Rattle.spec.specs.Run.{Ran, stepAt}
 use Rattle.spec.specs.Terms.{arrangementIn, kindOf, placeOf}
-use Rattle.theory.specs.Basics.Tests.{eq→eqb, and-left, and-right, of-true}
-use Rattle.theory.specs.Basics.Outcomes.{ok-injective, passed, seq-ok}
+use Rattle.theory.specs.Basics.Tests.{eq→eqb, and-left, and-right}
+use Rattle.theory.specs.Basics.Outcomes.{ok-injective, passed}
 use Rattle.theory.specs.Zones.Crossing.{extraOf}
 use Rattle.theory.specs.Plans.Taken.{Taken, movesOf}
 use Rattle.resolve.specs.declared.StepTest.{StepTest}
@@ -68,6 +68,7 @@ stepMoves m p o e s = movesOf m s (getD p o 0) (getD p (o + 1) 0) (getD p (o + 2
 abbrev pub stepRan : Map → List ℕ → ℕ → ℕ → State → Ran
 stepRan m p o e s = record { state = movedAll s (stepMoves m p o e s); moves = stepMoves m p o e s; next = o + 4 + e }
 
+-- seven checks before a value, or before what is made of it
 seven : (a b c d e f g : Bool) (i x : ℕ) (h : ℕ → Ran)
     → (check a 35 i >> (check b 36 i >> (check c 37 i >> (check d 38 i >> (check e 39 i >> (check f 35 i >> (check g 39 i >> ok (h x))))))))
     ≡ ((check a 35 i >> (check b 36 i >> (check c 37 i >> (check d 38 i >> (check e 39 i >> (check f 35 i >> (check g 39 i >> ok x))))))) >>= λ y. ok (h y))
@@ -142,6 +143,7 @@ module _ (m : Map) (k : ℕ) (p : List ℕ) (i o : ℕ) (s : State) (r u v behin
       >> (check (canLeave (kindOf m (zoneOf m u)) (arrangementIn m s (zoneOf m u)) r (placeOf m u)) 38 i
       >> entryTests (kindOf m (zoneOf m v)) (arrangementIn m s (zoneOf m v)) p i o r (placeOf m v) behind))
 
+  -- they are the tests of the step
   whole : o + 4 ≤ length p → stepTests m k p i o s ≡ rest
   unfolding stepTests rest check _>>_
   whole h = rw (er, eu, ev, eb, le-leb _ _ h)

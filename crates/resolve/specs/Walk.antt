@@ -1,18 +1,16 @@
 -- How far a walk of a plan's steps has come: the moves made so far, in front of those of the steps that are left.
 use mathlib.Core.Path.{_≡_, refl, sym, ap, ap₂, _∙_}
-use mathlib.Core.Logic.{_≢_}
-use mathlib.Core.Bool.{true}
 use mathlib.Core.List.{List, [], _∷_, _++_, append-assoc, append-nil}
-use Prim.Native.Nat.{ℕ, zero, suc, _+_, _-_, _≤_, _<_}
+use Prim.Native.Nat.{ℕ, suc, _+_, _-_, _≤_, _<_}
 use native.Mathlib.Omega.{arith}
-use lib.ListN.{length, getD, take, drop}
+use lib.ListN.{length}
 use Rattle.spec.specs.Outcome.{Outcome, ok, refuse, _>>=_, _>>_}
 use Rattle.spec.specs.Layout.{Map, zoneOf, zoneAt}
 use Rattle.spec.specs.Arrangement.{Move, mv}
 use Rattle.spec.specs.ZoneKind.{leave}
 use Rattle.spec.specs.State.{State, movedAll}
 use Rattle.spec.specs.Run.{Ran, stepAt, stepsFrom}
-use Rattle.spec.specs.Terms.{arrangementIn, zoneCount, kindOf, placeOf}
+use Rattle.spec.specs.Terms.{arrangementIn, kindOf, placeOf}
 use Rattle.theory.specs.Basics.Outcomes.{bind}
 use Rattle.theory.specs.Maps.Layout.{Accepted}
 use Rattle.theory.specs.Maps.Cells.{arrangement-length}
@@ -23,7 +21,7 @@ use Rattle.theory.specs.Plans.Taken.{Taken, leaving, entering, movesOf}
 use Rattle.theory.specs.Plans.Step.{proper, made}
 use Rattle.motion.specs.World.{World, madeAll, made-append, made-one, state-is}
 use Rattle.motion.specs.World as world
-use Rattle.resolve.specs.Tests.{stepTests, stepMoves, stepRan, step-tests, Passes, tests-passed}
+use Rattle.resolve.specs.Tests.{stepTests, stepMoves, stepRan, step-tests, tests-passed}
 use Rattle.resolve.specs.Fault.{faultOf}
 use Rattle.resolve.specs.declared.PlanFault.{PlanFault}
 use Rattle.resolve.specs.declared.PlanFault.the-variants as plan
@@ -32,16 +30,19 @@ use Rattle.resolve.specs.declared.PlanFault.the-variants as plan
 unfoldable pub after : List Move → Outcome Ran → Outcome Ran
 after ms o = o >>= λ ran. ok (record { state = ran .state; moves = ms ++ ran .moves; next = ran .next })
 
+-- no move before them
 after-none : (o : Outcome Ran) → o ≡ after [] o
 unfolding after _>>=_
 after-none (ok ran) = refl
 after-none (refuse n i) = refl
 
+-- moves before moves
 after-after : (ms ns : List Move) (o : Outcome Ran) → after ms (after ns o) ≡ after (ms ++ ns) o
 unfolding after _>>=_
 after-after ms ns (ok ran) = ap (λ (l : List Move). ok (record { state = ran .state; moves = l; next = ran .next })) (sym (append-assoc ms ns (ran .moves)))
 after-after ms ns (refuse n i) = refl
 
+-- a refusal stands
 after-refused : (ms : List Move) (n i : ℕ) → after ms (refuse n i) ≡ refuse n i
 unfolding after _>>=_
 after-refused ms n i = refl
@@ -53,6 +54,7 @@ unfolding stepsFrom after
 steps-next m k p todo i o s e t =
     bind (stepAt m k p i o s) (stepRan m p o e s) _ (step-tests m k p i o s ∙ bind (stepTests m k p i o s) e _ t)
 
+-- a step that fails is the refusal
 steps-refused : (m : Map) (k : ℕ) (p : List ℕ) (todo i o : ℕ) (s : State) (n : ℕ) → stepTests m k p i o s ≡ refuse n i → stepsFrom m k p (suc todo) i o s ≡ refuse n i
 unfolding stepsFrom _>>=_
 steps-refused m k p todo i o s n t = rw (step-tests m k p i o s, t)
@@ -112,6 +114,7 @@ module _ (m : Map) (g : Accepted m) (k : ℕ) (few : k ≤ 64) (p : List ℕ) (n
   }
 
   module _ (i o : ℕ) (w : World) (d : Walking m k p n w₀ i o w) where
+    -- what is left begins with step i
     next : i < n → stepsFrom m k p n 0 2 (w₀ .state) ≡ after (d .moves) (stepsFrom m k p (suc (n - (i + 1))) i o (w .state))
     next h = let e : n - i ≡ suc (n - (i + 1)) = omega arith in d .all ∙ ap (λ (t : ℕ). after (d .moves) (stepsFrom m k p t i o (w .state))) e
 

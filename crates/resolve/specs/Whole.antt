@@ -1,24 +1,22 @@
 -- A whole plan: the count, the steps, the surplus, the goals, the endings.
-use mathlib.Core.Path.{_≡_, refl, sym, ap, ap₂, _∙_}
-use mathlib.Core.Bool.{true, false}
+use mathlib.Core.Path.{_≡_, refl, sym, ap, _∙_}
 use mathlib.Core.List.{List, [], _∷_, _++_}
-use Prim.Native.Nat.{ℕ, zero, suc, _+_, _-_, _*_, _/_, _≤_, _<_}
+use Prim.Native.Nat.{ℕ, _+_, _-_, _*_, _/_, _≤_, _<_}
 use native.Mathlib.Omega.{arith}
 use mathlib.Core.Logic.{⊎-elim}
 use types.Run.{OneOf}
-use lib.ListN.{length, getD, take, length-take}
+use lib.ListN.{length, take}
 use lib.Seq.{length-take-le}
-use lib.Dec.{eqb, ltb}
+use lib.Dec.{eqb}
 use borrow.Author.Tests.{lt-ltb, le-ltb, eq-eqb, ne-eqb}
 use Rattle.spec.specs.Outcome.{Outcome, ok, refuse, _>>=_, _>>_, check}
 use Rattle.spec.specs.Wire.{word}
-use Rattle.spec.specs.Layout.{Map, Placing, wordAt, zoneAt}
+use Rattle.spec.specs.Layout.{Map, Placing, wordAt}
 use Rattle.spec.specs.Arrangement.{Move}
 use Rattle.spec.specs.State as meaning
 use Rattle.spec.specs.State.{moveBytes}
 use Rattle.spec.specs.Run.{Ran, countOf, stepsFrom, goalsFrom, endingsFrom, resolvedMoves}
 use Rattle.spec.specs.Terms.{zoneCount}
-use Rattle.theory.specs.Basics.Outcomes.{bind}
 use Rattle.theory.specs.Maps.Layout.{Accepted}
 use Rattle.theory.specs.Maps.ZoneSize.{zone-size}
 use Rattle.theory.specs.Zones.Lengths as zones
@@ -39,18 +37,22 @@ use Rattle.resolve.specs.declared.PlanFault.{PlanFault}
 use Rattle.resolve.specs.declared.PlanFault.the-variants as plan
 use Rattle.resolve.specs.declared.Resolved.{Resolved}
 
+-- a two-byte number that is not all there
 word-short : (a : ℕ) (p : List ℕ) (o : ℕ) → length p ≤ o + 1 → wordAt a p o ≡ refuse a o
 unfolding wordAt
 word-short a p o h = rw (le-ltb (o + 1) (length p) h, wordAt)
 
+-- one that is
 word-there : (a : ℕ) (p : List ℕ) (o : ℕ) → o + 1 < length p → wordAt a p o ≡ ok (word p o)
 unfolding wordAt
 word-there a p o h = rw (lt-ltb (o + 1) (length p) h, wordAt)
 
+-- a payload that ends before its count does
 count-short : (a : ℕ) (p : List ℕ) → length p < 2 → countOf a p ≡ refuse a 0
 unfolding countOf
 count-short a p h = rw (word-short a p 0 (omega arith), countOf)
 
+-- one that does not
 count-there : (a : ℕ) (p : List ℕ) → 2 ≤ length p → countOf a p ≡ ok (word p 0)
 unfolding countOf
 count-there a p h = rw (word-there a p 0 (omega arith), countOf)
@@ -82,6 +84,7 @@ abbrev pub fresh : meaning.State → List ℕ → World
 fresh s o = record { state = s; count = 0; buffer = o }
 
 module _ (m : Map) (pl : Placing) (f : List ℕ) (len : ℕ) (most : len ≤ length f / 512 * 504) where
+  -- the payload in the file
   p : List ℕ
   p = take len (payload f)
 
@@ -95,6 +98,7 @@ module _ (m : Map) (pl : Placing) (f : List ℕ) (len : ℕ) (most : len ≤ len
   unfolding resolvedMoves resolvedOn _>>=_ p
   there h = rw (count-there 35 p (omega (arith, held-length f len most)), held-word f len most 0 (omega arith))
 
+  -- the same, from the starts that the code holds
   counted : (n k : ℕ) (starts : List ℕ) (s : meaning.State) → 2 ≤ len → n ≡ wire.wordAt f 0 → k ≤ length starts → pl .starts ≡ take k starts → s ≡ meaning.standing (take k starts)
       → resolvedMoves m pl p ≡ resolvedOn m pl p n (stepsFrom m k p n 0 2 s)
   counted n k starts s h en l es ess =
@@ -149,6 +153,7 @@ module _ (m : Map) (pl : Placing) (f : List ℕ) (len : ℕ) (most : len ≤ len
   }
 
   module _ (k n : ℕ) (starts : List ℕ) (s : meaning.State) (h : 2 ≤ len) (en : n ≡ wire.wordAt f 0) (l : k ≤ length starts) (es : pl .starts ≡ take k starts) (ess : s ≡ meaning.standing (take k starts)) where
+    -- the count is read, what is left is the walk
     from : resolvedMoves m pl (take len (payload f)) ≡ resolvedOn m pl (take len (payload f)) n (stepsFrom m k (take len (payload f)) n 0 2 s)
     from = unfold p in counted m pl f len most n k starts s h en l es ess
 
@@ -177,6 +182,7 @@ module _ (m : Map) (pl : Placing) (f : List ℕ) (len : ℕ) (most : len ≤ len
         stands (plan.Goal i) z e = out 50 i e
 
     module _ (next : ℕ) (w : World) (d : WalkOf m k (take len (payload f)) n (fresh s o₀) plan.None next w) where
+      -- the walk passed, what is left are the surplus, the goals and the endings
       walked : resolvedMoves m pl (take len (payload f)) ≡ resolvedOn m pl (take len (payload f)) n (ok (record { state = w .state; moves = d .moves; next = next }))
       walked = from ∙ ap (resolvedOn m pl (take len (payload f)) n) (sym (d .answer))
 

@@ -1,6 +1,6 @@
 // A whole plan resolved: the count, the steps, the surplus, the goals, the endings.
 ghost use mathlib.Core.Path.{_≡_};
-ghost use Prim.Native.Nat.{ℕ, _*_, _/_, _≤_};
+ghost use Prim.Native.Nat.{_*_, _/_, _≤_};
 ghost use lib.ListN.{length, take};
 ghost use Rattle.spec.specs.Layout.{Map, Placing};
 ghost use Rattle.spec.specs.Terms.{zoneCount};

@@ -1,6 +1,6 @@
 // A plan's steps, one after the other.
 ghost use mathlib.Core.Path.{_≡_};
-ghost use Prim.Native.Nat.{ℕ, _+_, _*_, _/_, _≤_, _<_};
+ghost use Prim.Native.Nat.{_+_, _*_, _/_, _≤_, _<_};
 ghost use lib.ListN.{length, take};
 ghost use Rattle.spec.specs.Layout.{Map};
 ghost use Rattle.theory.specs.Maps.Consistent.{Consistent};

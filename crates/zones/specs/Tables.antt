@@ -1,13 +1,11 @@
 -- The tables that a map is read into, and what they say of an accepted map.
-use mathlib.Core.Path.{_≡_, refl, sym, ap, _∙_}
-use mathlib.Core.List.{List, []}
+use mathlib.Core.Path.{_≡_}
+use mathlib.Core.List.{List}
 use Prim.Native.Nat.{ℕ, _+_, _-_, _<_, _≤_}
 use native.Mathlib.Omega.{arith}
-use lib.ListN.{length, getD, take, drop, length-drop}
-use lib.Seq.{length-take-le}
-use Rattle.spec.specs.Outcome.{indexOf}
+use lib.ListN.{length, getD, take, drop}
 use Rattle.spec.specs.Layout.{Map, zoneOf, zoneAt}
-use Rattle.spec.specs.Terms.{zoneCount, kindOf, sizeOf, vertexAt, placeOf}
+use Rattle.spec.specs.Terms.{zoneCount, kindOf, sizeOf, placeOf}
 use Rattle.theory.specs.Maps.Layout.{Accepted}
 use Rattle.theory.specs.Maps.ZoneSize.{zone-size, zone-different}
 use Rattle.motion.specs.Coupling.{Listed}

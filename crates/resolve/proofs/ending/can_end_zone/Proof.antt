@@ -2,16 +2,13 @@ use Rattle.resolve.specs.Given.{part}
 use Rattle.spec.specs.ZoneKind.{canEnd}
 use Rattle.spec.specs.State.{arrangementOf}
 use Rattle.motion.specs.States.{stateOf}
-use lib.ListN.{length, getD, take}
-use Prim.Native.Nat.{ℕ, _+_, _-_, _≤_, _<_}
+use lib.ListN.{getD}
+use Prim.Native.Nat.{ℕ, _-_}
 use mathlib.Core.List.{List}
-use mathlib.Core.Path.{_≡_, refl, sym, ap, _∙_}
+use mathlib.Core.Path.{ap, _∙_}
 use borrow.Author.Needs.{needs}
 use Rattle.resolve.proofs.ending.can_end_zone.Statement.{statement}
 use Rattle.resolve.proofs.ending.can_end_zone.Tie as tie
-use Rattle.resolve.proofs.ending.can_end_zone.Reads as reads
-use Rattle.resolve.proofs.ending.can_end_zone.Lts as lts
-use Rattle.zones.proofs.can_end.Reads as can-end-reads
 
 element-copy-out-a : tie.Need-element-copy-out-a
 element-copy-out-a c = search needs

@@ -1,19 +1,16 @@
 use Rattle.resolve.specs.Given.{part}
 use Rattle.zones.specs.Kinds.{endMoves}
 use Rattle.spec.specs.State.{across}
-use Rattle.motion.specs.World.{worldOf, madeAll, made}
+use Rattle.motion.specs.World.{worldOf, madeAll}
 use Rattle.spec.specs.State.{arrangementOf}
 use Rattle.motion.specs.States.{stateOf}
-use lib.ListN.{length, getD, take}
-use Prim.Native.Nat.{ℕ, _+_, _-_, _≤_, _<_}
+use lib.ListN.{getD}
+use Prim.Native.Nat.{ℕ, _-_}
 use mathlib.Core.List.{List}
-use mathlib.Core.Path.{_≡_, refl, sym, ap, _∙_}
+use mathlib.Core.Path.{ap, _∙_}
 use borrow.Author.Needs.{needs}
 use Rattle.resolve.proofs.ending.end_zone.Statement.{statement}
 use Rattle.resolve.proofs.ending.end_zone.Tie as tie
-use Rattle.resolve.proofs.ending.end_zone.Reads as reads
-use Rattle.resolve.proofs.ending.end_zone.Lts as lts
-use Rattle.zones.proofs.bring_to_goals.Reads as bring-to-goals-reads
 
 element-copy-out-a : tie.Need-element-copy-out-a
 element-copy-out-a c = search needs

@@ -5,19 +5,15 @@ use Rattle.spec.specs.Terms.{zoneCount}
 use Rattle.spec.specs.Run.{goalsFrom}
 use Rattle.spec.specs.Layout.{Map}
 use Rattle.spec.specs.Outcome.{ok}
-use Rattle.motion.specs.World.{worldOf, madeAll, made}
+use Rattle.motion.specs.World.{worldOf, madeAll}
 use Rattle.motion.specs.States.{stateOf}
 use lib.ListN.{length}
 use Prim.Native.Nat.{ℕ, _-_, _≤_, _<_}
-use native.Mathlib.Omega.{arith}
 use mathlib.Core.List.{List}
-use mathlib.Core.Path.{_≡_, refl, sym, ap, _∙_}
+use mathlib.Core.Path.{_≡_, refl, ap, _∙_}
 use borrow.Author.Needs.{needs}
 use Rattle.resolve.proofs.ending.end_zones.Statement.{statement}
 use Rattle.resolve.proofs.ending.end_zones.Tie as tie
-use Rattle.resolve.proofs.ending.end_zones.Reads as reads
-use Rattle.resolve.proofs.ending.end_zones.Lts as lts
-use Rattle.resolve.proofs.ending.end_zone.Reads as end-zone-reads
 
 abbrev Inv-loop : tie.InvT-loop
 Inv-loop kind first size listed zones goals out₀ run₀ z₀ out run z = (length out ≡ length out₀) × (z ≤ zones)

@@ -3,17 +3,10 @@ use Rattle.resolve.specs.Given.{has-zone}
 use Rattle.spec.specs.Terms.{zoneCount}
 use Rattle.motion.specs.World.{worldOf}
 use Rattle.motion.specs.States.{stateOf}
-use Prim.Native.Nat.{ℕ, _≤_, _<_}
-use native.Mathlib.Omega.{arith}
-use mathlib.Core.List.{List}
-use mathlib.Core.Path.{_≡_, refl, sym, ap, _∙_}
+use Prim.Native.Nat.{_<_}
 use borrow.Author.Needs.{needs}
 use Rattle.resolve.proofs.ending.finish.Statement.{statement}
 use Rattle.resolve.proofs.ending.finish.Tie as tie
-use Rattle.resolve.proofs.ending.finish.Reads as reads
-use Rattle.resolve.proofs.ending.finish.Lts as lts
-use Rattle.resolve.proofs.ending.end_zones.Reads as end-zones-reads
-use Rattle.resolve.proofs.ending.off_zone.Reads as off-zone-reads
 
 off-zone-requires : tie.Need-off-zone-requires
 off-zone-requires c κs =

@@ -6,16 +6,12 @@ use Rattle.spec.specs.Layout.{Map}
 use borrow.Author.Tests.{not-true, not-false}
 use Rattle.motion.specs.States.{stateOf}
 use lib.ListN.{drop}
-use Prim.Native.Nat.{ℕ, _-_, _≤_, _<_}
-use native.Mathlib.Omega.{arith}
+use Prim.Native.Nat.{ℕ, _-_, _≤_}
 use mathlib.Core.List.{List}
 use mathlib.Core.Path.{_≡_, refl, sym, ap, _∙_}
 use borrow.Author.Needs.{needs}
 use Rattle.resolve.proofs.ending.off_zone.Statement.{statement}
 use Rattle.resolve.proofs.ending.off_zone.Tie as tie
-use Rattle.resolve.proofs.ending.off_zone.Reads as reads
-use Rattle.resolve.proofs.ending.off_zone.Lts as lts
-use Rattle.resolve.proofs.ending.can_end_zone.Reads as can-end-zone-reads
 
 abbrev Inv-loop : tie.InvT-loop
 Inv-loop kind first size listed zones s goals z₀ z = (z ≤ zones) × ((m : Map) (n k : ℕ) (zone place : List ℕ) (rows : List (List ℕ)) → Given m n k kind first size listed zone place rows → zoneCount m ≡ zones

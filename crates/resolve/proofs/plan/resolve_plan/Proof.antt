@@ -9,19 +9,12 @@ use Rattle.wire.specs.Payload.{payload}
 use Rattle.spec.specs.State as meaning
 use Rattle.motion.specs.States.{stateOf}
 use lib.ListN.{length, take}
-use Prim.Native.Nat.{ℕ, _≤_, _<_}
+use Prim.Native.Nat.{ℕ, _≤_}
 use native.Mathlib.Omega.{arith}
-use mathlib.Core.List.{List}
-use mathlib.Core.Path.{_≡_, refl, sym, ap, _∙_}
+use mathlib.Core.Path.{_≡_, sym, ap, _∙_}
 use borrow.Author.Needs.{needs}
 use Rattle.resolve.proofs.plan.resolve_plan.Statement.{statement}
 use Rattle.resolve.proofs.plan.resolve_plan.Tie as tie
-use Rattle.resolve.proofs.plan.resolve_plan.Reads as reads
-use Rattle.resolve.proofs.plan.resolve_plan.Lts as lts
-use Rattle.motion.proofs.standing.Reads as standing-reads
-use Rattle.resolve.proofs.ending.finish.Reads as finish-reads
-use Rattle.resolve.proofs.walk.walk.Reads as walk-reads
-use Rattle.wire.proofs.payload_word.Reads as payload-word-reads
 
 returns : tie.Need-returns
 returns c = λ m pl d e pd es eg.

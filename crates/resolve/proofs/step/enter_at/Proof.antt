@@ -2,22 +2,19 @@ use Rattle.resolve.specs.Held.{heldPart}
 use Rattle.resolve.specs.Given.{part, kindAt, verticesAt}
 use lib.ListN.{replicate}
 use Rattle.clique.specs.Comparing.{cells-length}
-use Rattle.zones.specs.Kinds.{leaveMoves, enterMoves}
-use Rattle.motion.specs.World.{worldOf, madeAll, made}
+use Rattle.zones.specs.Kinds.{enterMoves}
+use Rattle.motion.specs.World.{worldOf, madeAll}
 use Rattle.spec.specs.State.{across}
 use Rattle.spec.specs.State.{arrangementOf}
 use Rattle.motion.specs.States.{stateOf}
 use lib.ListN.{length, getD, take}
 use native.Mathlib.Omega.{arith}
-use Prim.Native.Nat.{ℕ, _+_, _-_, _≤_, _<_}
+use Prim.Native.Nat.{ℕ, _+_, _-_}
 use mathlib.Core.List.{List}
-use mathlib.Core.Path.{_≡_, refl, sym, ap, _∙_}
+use mathlib.Core.Path.{_≡_, sym, ap, _∙_}
 use borrow.Author.Needs.{needs}
 use Rattle.resolve.proofs.step.enter_at.Statement.{statement}
 use Rattle.resolve.proofs.step.enter_at.Tie as tie
-use Rattle.resolve.proofs.step.enter_at.Reads as reads
-use Rattle.resolve.proofs.step.enter_at.Lts as lts
-use Rattle.resolve.proofs.step.enter_in.Reads as enter-in-reads
 
 element-copy-out-z : tie.Need-element-copy-out-z
 element-copy-out-z c = search needs

@@ -1,21 +1,16 @@
 use native.Mathlib.Nat.{le-refl}
-use Rattle.zones.specs.Kinds.{leaveMoves, enterMoves}
-use Rattle.motion.specs.World.{worldOf, madeAll, made}
+use Rattle.zones.specs.Kinds.{enterMoves}
+use Rattle.motion.specs.World.{worldOf, madeAll}
 use Rattle.spec.specs.State.{across}
 use Rattle.spec.specs.State.{arrangementOf}
 use Rattle.motion.specs.States.{stateOf}
-use lib.ListN.{length, getD, take}
-use native.Mathlib.Omega.{arith}
-use Prim.Native.Nat.{ℕ, _+_, _-_, _≤_, _<_}
+use lib.ListN.{length}
+use Prim.Native.Nat.{ℕ, _+_, _-_}
 use mathlib.Core.List.{List}
-use mathlib.Core.Path.{_≡_, refl, sym, ap, _∙_}
+use mathlib.Core.Path.{ap, _∙_}
 use borrow.Author.Needs.{needs}
 use Rattle.resolve.proofs.step.enter_in.Statement.{statement}
 use Rattle.resolve.proofs.step.enter_in.Tie as tie
-use Rattle.resolve.proofs.step.enter_in.Reads as reads
-use Rattle.resolve.proofs.step.enter_in.Lts as lts
-use Rattle.resolve.proofs.tests.copy_list.Reads as copy-list-reads
-use Rattle.zones.proofs.enter.Reads as enter-reads
 
 copy-list-requires : tie.Need-copy-list-requires
 copy-list-requires c κs = search needs

@@ -1,19 +1,16 @@
 use Rattle.resolve.specs.Given.{part, kindAt}
-use Rattle.zones.specs.Kinds.{leaveMoves, enterMoves}
-use Rattle.motion.specs.World.{worldOf, madeAll, made}
+use Rattle.zones.specs.Kinds.{leaveMoves}
+use Rattle.motion.specs.World.{worldOf, madeAll}
 use Rattle.spec.specs.State.{across}
 use Rattle.spec.specs.State.{arrangementOf}
 use Rattle.motion.specs.States.{stateOf}
-use lib.ListN.{length, getD, take}
-use Prim.Native.Nat.{ℕ, _+_, _-_, _≤_, _<_}
+use lib.ListN.{getD}
+use Prim.Native.Nat.{ℕ, _-_}
 use mathlib.Core.List.{List}
-use mathlib.Core.Path.{_≡_, refl, sym, ap, _∙_}
+use mathlib.Core.Path.{ap, _∙_}
 use borrow.Author.Needs.{needs}
 use Rattle.resolve.proofs.step.leave_at.Statement.{statement}
 use Rattle.resolve.proofs.step.leave_at.Tie as tie
-use Rattle.resolve.proofs.step.leave_at.Reads as reads
-use Rattle.resolve.proofs.step.leave_at.Lts as lts
-use Rattle.zones.proofs.leave.Reads as leave-reads
 
 element-copy-out-z : tie.Need-element-copy-out-z
 element-copy-out-z c = search needs

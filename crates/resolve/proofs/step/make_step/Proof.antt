@@ -1,21 +1,11 @@
 use Rattle.resolve.specs.Steps.{stepping-room, stepping-from, stepping-to, stepping-leaves, stepping-short, stepping-named, stepping-made}
 use Rattle.resolve.specs.Given.{Stepping}
-use Rattle.motion.specs.World.{worldOf, madeAll, made}
 use Rattle.motion.specs.States.{stateOf}
-use lib.ListN.{length, getD, take}
-use native.Mathlib.Omega.{arith}
-use Prim.Native.Nat.{ℕ, _+_, _-_, _≤_, _<_}
-use mathlib.Core.List.{List}
-use mathlib.Core.Path.{_≡_, refl, sym, ap, _∙_}
+use Prim.Native.Nat.{_-_}
+use mathlib.Core.Path.{refl}
 use borrow.Author.Needs.{needs}
 use Rattle.resolve.proofs.step.make_step.Statement.{statement}
 use Rattle.resolve.proofs.step.make_step.Tie as tie
-use Rattle.resolve.proofs.step.make_step.Reads as reads
-use Rattle.resolve.proofs.step.make_step.Lts as lts
-use Rattle.motion.proofs.make.Reads as make-reads
-use Rattle.resolve.proofs.step.enter_at.Reads as enter-at-reads
-use Rattle.resolve.proofs.step.leave_at.Reads as leave-at-reads
-use Rattle.wire.proofs.payload_byte.Reads as payload-byte-reads
 
 payload-byte-requires : tie.Need-payload-byte-requires
 payload-byte-requires c κs = search needs

@@ -1,9 +1,6 @@
-use borrow.Author.Needs.{needs}
 use Rattle.resolve.specs.Given.{numbered-robot, numbered-from, numbered-to, numbered-all}
 use Rattle.resolve.proofs.tests.are_numbered.Statement.{statement}
 use Rattle.resolve.proofs.tests.are_numbered.Tie as tie
-use Rattle.resolve.proofs.tests.are_numbered.Reads as reads
-use Rattle.resolve.proofs.tests.are_numbered.Lts as lts
 
 returns : tie.Need-returns
 returns c = numbered-robot _ _ _ _ _ (c .if1 .taken)

@@ -1,17 +1,12 @@
 use Rattle.spec.specs.ZoneKind.{canEnter}
 use Rattle.spec.specs.State.{arrangementOf}
 use Rattle.motion.specs.States.{stateOf}
-use lib.ListN.{length, getD, take}
-use Prim.Native.Nat.{ℕ, _+_, _-_, _≤_, _<_}
+use Prim.Native.Nat.{ℕ, _-_}
 use mathlib.Core.List.{List}
-use mathlib.Core.Path.{_≡_, refl, sym, ap, _∙_}
+use mathlib.Core.Path.{ap, _∙_}
 use borrow.Author.Needs.{needs}
 use Rattle.resolve.proofs.tests.can_enter_in.Statement.{statement}
 use Rattle.resolve.proofs.tests.can_enter_in.Tie as tie
-use Rattle.resolve.proofs.tests.can_enter_in.Reads as reads
-use Rattle.resolve.proofs.tests.can_enter_in.Lts as lts
-use Rattle.resolve.proofs.tests.copy_list.Reads as copy-list-reads
-use Rattle.zones.proofs.can_enter.Reads as can-enter-reads
 
 copy-list-requires : tie.Need-copy-list-requires
 copy-list-requires c κs = search needs

@@ -2,16 +2,13 @@ use Rattle.resolve.specs.Given.{part, kindAt}
 use Rattle.spec.specs.ZoneKind.{canLeave}
 use Rattle.spec.specs.State.{arrangementOf}
 use Rattle.motion.specs.States.{stateOf}
-use lib.ListN.{length, getD, take}
-use Prim.Native.Nat.{ℕ, _+_, _-_, _≤_, _<_}
+use lib.ListN.{getD}
+use Prim.Native.Nat.{ℕ, _-_}
 use mathlib.Core.List.{List}
-use mathlib.Core.Path.{_≡_, refl, sym, ap, _∙_}
+use mathlib.Core.Path.{ap, _∙_}
 use borrow.Author.Needs.{needs}
 use Rattle.resolve.proofs.tests.can_leave_at.Statement.{statement}
 use Rattle.resolve.proofs.tests.can_leave_at.Tie as tie
-use Rattle.resolve.proofs.tests.can_leave_at.Reads as reads
-use Rattle.resolve.proofs.tests.can_leave_at.Lts as lts
-use Rattle.zones.proofs.can_leave.Reads as can-leave-reads
 
 element-copy-out-z : tie.Need-element-copy-out-z
 element-copy-out-z c = search needs

@@ -1,14 +1,11 @@
 use borrow.Author.Needs.{needs}
-use mathlib.Core.Path.{_≡_, refl, sym, ap, _∙_}
+use mathlib.Core.Path.{_≡_, refl}
 use native.Mathlib.Omega.{arith}
 use Prim.Native.Nat.{_≤_, _-_}
 use lib.ListN.{length, length-set}
 use Rattle.resolve.specs.Held.{Copied, copied-more, copied-all}
 use Rattle.resolve.proofs.tests.copy_list.Statement.{statement}
 use Rattle.resolve.proofs.tests.copy_list.Tie as tie
-use Rattle.resolve.proofs.tests.copy_list.Reads as reads
-use Rattle.resolve.proofs.tests.copy_list.Lts as lts
-use Rattle.wire.proofs.payload_byte.Reads as payload-byte-reads
 
 abbrev Inv-loop : tie.InvT-loop
 Inv-loop file from list₀ i₀ list i = (length list ≡ length list₀) × (i ≤ length list) × Copied file from list i

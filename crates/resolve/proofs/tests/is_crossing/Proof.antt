@@ -1,12 +1,9 @@
-use mathlib.Core.Path.{_≡_, refl, sym, ap, _∙_}
+use mathlib.Core.Path.{sym, _∙_}
 use borrow.Author.Tests.{not-true, not-false}
 use Rattle.resolve.specs.Given.{crosses-none, crosses-inside, crosses-over}
 use borrow.Author.Needs.{needs}
 use Rattle.resolve.proofs.tests.is_crossing.Statement.{statement}
 use Rattle.resolve.proofs.tests.is_crossing.Tie as tie
-use Rattle.resolve.proofs.tests.is_crossing.Reads as reads
-use Rattle.resolve.proofs.tests.is_crossing.Lts as lts
-use Rattle.adjacency.proofs.joined.Reads as joined-reads
 
 joined-requires : tie.Need-joined-requires
 joined-requires c κs = search needs

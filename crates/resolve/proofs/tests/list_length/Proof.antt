@@ -1,12 +1,9 @@
 use Rattle.motion.specs.States.{stateOf}
-use mathlib.Core.Path.{_≡_, refl, sym, ap, _∙_}
+use mathlib.Core.Path.{sym, _∙_}
 use Rattle.resolve.specs.Held.{extra-filled, extra-none}
 use borrow.Author.Needs.{needs}
 use Rattle.resolve.proofs.tests.list_length.Statement.{statement}
 use Rattle.resolve.proofs.tests.list_length.Tie as tie
-use Rattle.resolve.proofs.tests.list_length.Reads as reads
-use Rattle.resolve.proofs.tests.list_length.Lts as lts
-use Rattle.zones.proofs.fills.Reads as fills-reads
 
 fills-requires : tie.Need-fills-requires
 fills-requires c κs = search needs

@@ -4,22 +4,17 @@ use lib.ListN.{replicate}
 use Rattle.clique.specs.Comparing.{cells-length}
 use Rattle.resolve.specs.Tests.{entry-full, entry-short, entry-unmet, entry-met}
 use Rattle.resolve.specs.Held.{extra-most}
-use Rattle.wire.specs.Payload.{payload, held-length, held-byte}
+use Rattle.wire.specs.Payload.{payload, held-length}
 use Rattle.spec.specs.State.{arrangementOf}
 use Rattle.motion.specs.States.{stateOf}
 use native.Mathlib.Omega.{arith}
-use lib.ListN.{length, getD, take}
-use Prim.Native.Nat.{ℕ, _+_, _-_, _≤_, _<_}
+use lib.ListN.{length, take}
+use Prim.Native.Nat.{ℕ, _+_, _-_, _≤_}
 use mathlib.Core.List.{List}
-use mathlib.Core.Path.{_≡_, refl, sym, ap, _∙_}
+use mathlib.Core.Path.{_≡_, sym, ap, _∙_}
 use borrow.Author.Needs.{needs}
 use Rattle.resolve.proofs.tests.test_entry.Statement.{statement}
 use Rattle.resolve.proofs.tests.test_entry.Tie as tie
-use Rattle.resolve.proofs.tests.test_entry.Reads as reads
-use Rattle.resolve.proofs.tests.test_entry.Lts as lts
-use Rattle.resolve.proofs.tests.can_enter_in.Reads as can-enter-in-reads
-use Rattle.resolve.proofs.tests.list_length.Reads as list-length-reads
-use Rattle.zones.proofs.is_full.Reads as is-full-reads
 
 is-full-requires : tie.Need-is-full-requires
 is-full-requires c κs = search needs

@@ -3,16 +3,13 @@ use Rattle.resolve.specs.Given.{part, kindAt}
 use Rattle.wire.specs.Payload.{payload}
 use Rattle.spec.specs.State.{arrangementOf}
 use Rattle.motion.specs.States.{stateOf}
-use lib.ListN.{length, getD, take}
-use Prim.Native.Nat.{ℕ, _+_, _-_, _≤_, _<_}
+use lib.ListN.{getD, take}
+use Prim.Native.Nat.{ℕ, _-_}
 use mathlib.Core.List.{List}
-use mathlib.Core.Path.{_≡_, refl, sym, ap, _∙_}
+use mathlib.Core.Path.{ap, _∙_}
 use borrow.Author.Needs.{needs}
 use Rattle.resolve.proofs.tests.test_entry_at.Statement.{statement}
 use Rattle.resolve.proofs.tests.test_entry_at.Tie as tie
-use Rattle.resolve.proofs.tests.test_entry_at.Reads as reads
-use Rattle.resolve.proofs.tests.test_entry_at.Lts as lts
-use Rattle.resolve.proofs.tests.test_entry.Reads as test-entry-reads
 
 element-copy-out-z : tie.Need-element-copy-out-z
 element-copy-out-z c = search needs

@@ -1,24 +1,16 @@
 use Rattle.resolve.specs.Steps.{shown-vertices, step-number, step-edge, step-leave, step-enter}
 use Rattle.resolve.specs.Given.{numbers-below}
 use Rattle.resolve.specs.Tests.{tests-short}
-use Rattle.wire.specs.Payload.{payload, held-length, held-byte}
+use Rattle.wire.specs.Payload.{payload, held-length}
 use borrow.Author.Tests.{not-true, not-false}
 use Rattle.motion.specs.States.{stateOf}
 use native.Mathlib.Omega.{arith}
-use lib.ListN.{length, getD, take}
-use Prim.Native.Nat.{ℕ, _+_, _-_, _≤_, _<_}
-use mathlib.Core.List.{List}
-use mathlib.Core.Path.{_≡_, refl, sym, ap, _∙_}
+use lib.ListN.{take}
+use Prim.Native.Nat.{_-_}
+use mathlib.Core.Path.{sym, _∙_}
 use borrow.Author.Needs.{needs}
 use Rattle.resolve.proofs.tests.test_step.Statement.{statement}
 use Rattle.resolve.proofs.tests.test_step.Tie as tie
-use Rattle.resolve.proofs.tests.test_step.Reads as reads
-use Rattle.resolve.proofs.tests.test_step.Lts as lts
-use Rattle.resolve.proofs.tests.are_numbered.Reads as are-numbered-reads
-use Rattle.resolve.proofs.tests.can_leave_at.Reads as can-leave-at-reads
-use Rattle.resolve.proofs.tests.is_crossing.Reads as is-crossing-reads
-use Rattle.resolve.proofs.tests.test_entry_at.Reads as test-entry-at-reads
-use Rattle.wire.proofs.payload_byte.Reads as payload-byte-reads
 
 sub-if1 : tie.Need-sub-if1
 sub-if1 c = search needs

@@ -1,10 +1,8 @@
 use Rattle.resolve.specs.Steps.{refusalOf}
-use mathlib.Core.Path.{_≡_, refl, sym, ap, _∙_}
+use mathlib.Core.Path.{sym, ap}
 use borrow.Author.Needs.{needs}
 use Rattle.resolve.proofs.walk.refusal_of.Statement.{statement}
 use Rattle.resolve.proofs.walk.refusal_of.Tie as tie
-use Rattle.resolve.proofs.walk.refusal_of.Reads as reads
-use Rattle.resolve.proofs.walk.refusal_of.Lts as lts
 
 enum-told : tie.Need-enum-told
 enum-told c = search needs

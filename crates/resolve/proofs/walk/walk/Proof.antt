@@ -5,22 +5,16 @@ use Rattle.resolve.specs.Walk.{Walking, walk-start, walk-end}
 use Rattle.resolve.specs.Given.{Given}
 use Rattle.theory.specs.Maps.Consistent.{Consistent}
 use Rattle.spec.specs.Layout.{Map}
-use Rattle.motion.specs.World.{worldOf, madeAll}
-use Rattle.wire.specs.Payload.{payload, held-length, held-byte}
+use Rattle.motion.specs.World.{worldOf}
+use Rattle.wire.specs.Payload.{payload, held-length}
 use Rattle.motion.specs.States.{stateOf}
 use lib.ListN.{length, take}
-use Prim.Native.Nat.{ℕ, _+_, _-_, _≤_, _<_}
+use Prim.Native.Nat.{_-_, _≤_}
 use native.Mathlib.Omega.{arith}
-use mathlib.Core.List.{List}
-use mathlib.Core.Path.{_≡_, refl, sym, ap, _∙_}
+use mathlib.Core.Path.{_≡_, refl, sym, ap}
 use borrow.Author.Needs.{needs}
 use Rattle.resolve.proofs.walk.walk.Statement.{statement}
 use Rattle.resolve.proofs.walk.walk.Tie as tie
-use Rattle.resolve.proofs.walk.walk.Reads as reads
-use Rattle.resolve.proofs.walk.walk.Lts as lts
-use Rattle.resolve.proofs.step.make_step.Reads as make-step-reads
-use Rattle.resolve.proofs.tests.test_step.Reads as test-step-reads
-use Rattle.resolve.proofs.walk.refusal_of.Reads as refusal-of-reads
 
 abbrev Inv-loop : tie.InvT-loop
 Inv-loop file len count kind first size listed zone place rows n k out₀ run₀ o₀ i₀ out run o i = (length out ≡ length out₀) × (i ≤ count)

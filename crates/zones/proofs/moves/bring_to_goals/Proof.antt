@@ -4,15 +4,10 @@ use Rattle.motion.specs.States.{stateOf}
 use Rattle.spec.specs.State.{across, arrangementOf}
 use Rattle.spec.specs.Arrangement.{Move}
 use mathlib.Core.List.{List}
-use mathlib.Core.Path.{_≡_, ap, _∙_}
+use mathlib.Core.Path.{ap, _∙_}
 use borrow.Author.Needs.{needs}
 use Rattle.zones.proofs.moves.bring_to_goals.Statement.{statement}
 use Rattle.zones.proofs.moves.bring_to_goals.Tie as tie
-use Rattle.zones.proofs.moves.bring_to_goals.Reads as reads
-use Rattle.zones.proofs.moves.bring_to_goals.Lts as lts
-use Rattle.clique.proofs.bring_to_goals.Reads as bring-to-goals-reads
-use Rattle.hall.proofs.end.Reads as end-reads
-use Rattle.ring.proofs.end.Reads as end-reads′
 
 bring-to-goals-requires : tie.Need-bring-to-goals-requires
 bring-to-goals-requires c κs = search needs

@@ -1,10 +1,8 @@
-use mathlib.Core.Path.{_≡_, sym, ap, _∙_}
+use mathlib.Core.Path.{_∙_}
 use Rattle.zones.specs.Kinds.{clique-can-end, ring-can-end, hall-can-end}
 use borrow.Author.Needs.{needs}
 use Rattle.zones.proofs.reach.can_end.Statement.{statement}
 use Rattle.zones.proofs.reach.can_end.Tie as tie
-use Rattle.zones.proofs.reach.can_end.Reads as reads
-use Rattle.zones.proofs.reach.can_end.Lts as lts
 
 can-end-requires : tie.Need-can-end-requires
 can-end-requires c κs = search needs
