@@ -1,13 +1,11 @@
 -- The tables that a map is read into, and what they say of an accepted map.
-use mathlib.Core.Path.{_≡_, refl, sym, ap, _∙_}
-use mathlib.Core.List.{List, []}
+use mathlib.Core.Path.{_≡_}
+use mathlib.Core.List.{List}
 use Prim.Native.Nat.{ℕ, _+_, _-_, _<_, _≤_}
 use native.Mathlib.Omega.{arith}
-use lib.ListN.{length, getD, take, drop, length-drop}
-use lib.Seq.{length-take-le}
-use Rattle.spec.specs.Outcome.{indexOf}
+use lib.ListN.{length, getD, take, drop}
 use Rattle.spec.specs.Layout.{Map, zoneOf, zoneAt}
-use Rattle.spec.specs.Terms.{zoneCount, kindOf, sizeOf, vertexAt, placeOf}
+use Rattle.spec.specs.Terms.{zoneCount, kindOf, sizeOf, placeOf}
 use Rattle.theory.specs.Maps.Layout.{Accepted}
 use Rattle.theory.specs.Maps.ZoneSize.{zone-size, zone-different}
 use Rattle.motion.specs.Coupling.{Listed}
@@ -20,7 +18,7 @@ verticesIn first size listed z = take (getD size z 0) (drop (getD first z 0) lis
 -- stands in zone zone[v] at place place[v]
 pub record Tables (m : Map) (kind first size listed zone place : List ℕ) : Type 0 where
   pub few : zoneCount m ≤ 64
-  pub fits : (z : ℕ) → z < zoneCount m → getD first z 0 + getD size z 0 ≤ 128
+  pub fits : (z : ℕ) → z < zoneCount m → getD first z 0 + getD size z 0 ≤ length listed
   pub kinds : (z : ℕ) → z < zoneCount m → kindOf m z ≡ getD kind z 0
   pub vertices : (z : ℕ) → z < zoneCount m → zoneAt m z .vertices ≡ verticesIn first size listed z
   pub zones : (v : ℕ) → v < m .size → getD zone v 0 ≡ zoneOf m v

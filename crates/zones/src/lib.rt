@@ -5,9 +5,11 @@
 pub mod moves;
 pub mod reach;
 
+pub use moves::bring_to_goals;
 pub use moves::enter;
 pub use moves::leave;
 pub use reach::behind_of;
+pub use reach::can_end;
 pub use reach::can_enter;
 pub use reach::can_leave;
 pub use reach::fills;

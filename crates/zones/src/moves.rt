@@ -4,13 +4,14 @@ ghost use mathlib.Core.Bool.{true};
 ghost use Prim.Native.Nat.{_≤_, _<_};
 ghost use lib.ListN.{length};
 ghost use Rattle.spec.specs.State.{arrangementOf, across};
-ghost use Rattle.spec.specs.ZoneKind.{canLeave};
+ghost use Rattle.spec.specs.ZoneKind.{canLeave, canEnd};
 ghost use Rattle.motion.specs.States.{stateOf};
 ghost use Rattle.motion.specs.World.{worldOf, madeAll};
 ghost use Rattle.motion.specs.Coupling.{Listed};
 ghost use Rattle.clique.specs.Entering.{Numbered};
-ghost use Rattle.zones.specs.Kinds.{leaveMoves, enterMoves};
+ghost use Rattle.zones.specs.Kinds.{leaveMoves, enterMoves, endMoves};
 use motion::Run;
+use motion::State;
 use numbering::Robot;
 
 // The moves that bring robot r, which can leave there, to place j.
@@ -46,5 +47,19 @@ pub fn enter(
         3 => clique::enter(run, zone, j, list, out),
         4 => ring::enter(run, zone, j, behind, out),
         _ => hall::enter(run, zone, j, behind, out),
+    }
+}
+
+// The moves that bring the robots to their goals, which can be reached.
+pub fn bring_to_goals(kind: u8, run: Run, zone: &[u8], goals: State, out: &mut [u8]) -> Run
+    requires { ⌜ length (now zone) ≤ 128 ⌝ }
+    requires { ⌜ Listed 128 (now zone) ⌝ }
+    requires { ⌜ canEnd kind (arrangementOf (stateOf (run .state)) (now zone)) (arrangementOf (stateOf goals) (now zone)) ≡ true ⌝ }
+    ensures { λ q. ⌜ worldOf q (now (out .exit)) ≡ madeAll (worldOf run (now (out .entry))) (across (now (zone .entry)) (endMoves kind (arrangementOf (stateOf (run .state)) (now (zone .entry))) (arrangementOf (stateOf goals) (now (zone .entry))))) ⌝ }
+{
+    match kind {
+        3 => clique::bring_to_goals(run, zone, goals, out),
+        4 => ring::end(run, zone, goals, out),
+        _ => hall::end(run, zone, goals, out),
     }
 }

@@ -70,3 +70,15 @@ pub fn can_enter(
         _ => hall::can_enter(s, zone, j, behind),
     }
 }
+
+// Is the goals' arrangement in the configuration?
+pub fn can_end(kind: u8, s: State, zone: &[u8], goals: State) -> bool
+    requires { ⌜ length (now zone) ≤ 128 ⌝ }
+    ensures { λ b. ⌜ b ≡ canEnd kind (arrangementOf (stateOf s) (now (zone .entry))) (arrangementOf (stateOf goals) (now (zone .entry))) ⌝ }
+{
+    match kind {
+        3 => clique::can_end(s, zone, goals),
+        4 => ring::can_end(s, zone, goals),
+        _ => hall::can_end(s, zone, goals),
+    }
+}

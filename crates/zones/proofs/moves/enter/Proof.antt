@@ -1,4 +1,4 @@
-use mathlib.Core.Path.{_≡_, sym, ap, _∙_}
+use mathlib.Core.Path.{ap, _∙_}
 use mathlib.Core.List.{List}
 use Rattle.spec.specs.Arrangement.{Move}
 use Rattle.spec.specs.State.{across, arrangementOf}
@@ -8,11 +8,6 @@ use Rattle.zones.specs.Kinds.{clique-enter, ring-enter, hall-enter}
 use borrow.Author.Needs.{needs}
 use Rattle.zones.proofs.moves.enter.Statement.{statement}
 use Rattle.zones.proofs.moves.enter.Tie as tie
-use Rattle.zones.proofs.moves.enter.Reads as reads
-use Rattle.zones.proofs.moves.enter.Lts as lts
-use Rattle.clique.proofs.enter.Reads as entering-enter-reads
-use Rattle.hall.proofs.enter.Reads as enter-reads
-use Rattle.ring.proofs.enter.Reads as enter-reads′
 
 enter-requires : tie.Need-enter-requires
 enter-requires c κs = search needs

@@ -1,4 +1,4 @@
-use mathlib.Core.Path.{_≡_, sym, ap, _∙_}
+use mathlib.Core.Path.{ap, _∙_}
 use mathlib.Core.List.{List}
 use Rattle.spec.specs.Arrangement.{Move}
 use Rattle.spec.specs.State.{across, arrangementOf}
@@ -8,11 +8,6 @@ use Rattle.zones.specs.Kinds.{clique-leave, ring-leave, hall-leave, ring
 use borrow.Author.Needs.{needs}
 use Rattle.zones.proofs.moves.leave.Statement.{statement}
 use Rattle.zones.proofs.moves.leave.Tie as tie
-use Rattle.zones.proofs.moves.leave.Reads as reads
-use Rattle.zones.proofs.moves.leave.Lts as lts
-use Rattle.clique.proofs.leave.Reads as leaving-leave-reads
-use Rattle.hall.proofs.leave.Reads as leave-reads
-use Rattle.ring.proofs.leave.Reads as leave-reads′
 
 leave-requires : tie.Need-leave-requires
 leave-requires c κs = search needs

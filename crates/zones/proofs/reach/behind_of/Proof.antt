@@ -1,12 +1,8 @@
-use mathlib.Core.Path.{_≡_, sym, ap, _∙_}
+use mathlib.Core.Path.{_∙_}
 use Rattle.zones.specs.Kinds.{clique-behind, ring-behind, hall-behind}
 use borrow.Author.Needs.{needs}
 use Rattle.zones.proofs.reach.behind_of.Statement.{statement}
 use Rattle.zones.proofs.reach.behind_of.Tie as tie
-use Rattle.zones.proofs.reach.behind_of.Reads as reads
-use Rattle.zones.proofs.reach.behind_of.Lts as lts
-use Rattle.hall.proofs.behind.Reads as reach-behind-reads
-use Rattle.ring.proofs.behind.Reads as turning-behind-reads
 
 behind-requires : tie.Need-behind-requires
 behind-requires c κs = search needs

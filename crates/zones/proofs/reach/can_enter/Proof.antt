@@ -1,13 +1,8 @@
-use mathlib.Core.Path.{_≡_, sym, ap, _∙_}
+use mathlib.Core.Path.{_∙_}
 use Rattle.zones.specs.Kinds.{clique-can-enter, ring-can-enter, hall-can-enter}
 use borrow.Author.Needs.{needs}
 use Rattle.zones.proofs.reach.can_enter.Statement.{statement}
 use Rattle.zones.proofs.reach.can_enter.Tie as tie
-use Rattle.zones.proofs.reach.can_enter.Reads as reads
-use Rattle.zones.proofs.reach.can_enter.Lts as lts
-use Rattle.clique.proofs.can_enter.Reads as entering-can-enter-reads
-use Rattle.hall.proofs.can_enter.Reads as reach-can-enter-reads
-use Rattle.ring.proofs.can_enter.Reads as can-enter-reads
 
 can-enter-requires : tie.Need-can-enter-requires
 can-enter-requires c κs = search needs

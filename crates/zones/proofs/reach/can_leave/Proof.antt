@@ -1,13 +1,8 @@
-use mathlib.Core.Path.{_≡_, sym, ap, _∙_}
+use mathlib.Core.Path.{_∙_}
 use Rattle.zones.specs.Kinds.{clique-can-leave, ring-can-leave, hall-can-leave}
 use borrow.Author.Needs.{needs}
 use Rattle.zones.proofs.reach.can_leave.Statement.{statement}
 use Rattle.zones.proofs.reach.can_leave.Tie as tie
-use Rattle.zones.proofs.reach.can_leave.Reads as reads
-use Rattle.zones.proofs.reach.can_leave.Lts as lts
-use Rattle.clique.proofs.can_leave.Reads as leaving-can-leave-reads
-use Rattle.hall.proofs.can_leave.Reads as reach-can-leave-reads
-use Rattle.ring.proofs.can_leave.Reads as can-leave-reads
 
 can-leave-requires : tie.Need-can-leave-requires
 can-leave-requires c κs = search needs

@@ -1,11 +1,8 @@
-use mathlib.Core.Path.{_≡_, sym, ap, _∙_}
+use mathlib.Core.Path.{_∙_}
 use Rattle.zones.specs.Kinds.{clique-fills, other-fills}
 use borrow.Author.Needs.{needs}
 use Rattle.zones.proofs.reach.fills.Statement.{statement}
 use Rattle.zones.proofs.reach.fills.Tie as tie
-use Rattle.zones.proofs.reach.fills.Reads as reads
-use Rattle.zones.proofs.reach.fills.Lts as lts
-use Rattle.clique.proofs.last_free.Reads as last-free-reads
 
 last-free-requires : tie.Need-last-free-requires
 last-free-requires c κs = search needs

@@ -1,0 +1,104 @@
+use Rattle.resolve.specs.Held.{heldPart}
+use Rattle.resolve.specs.Given.{part, kindAt, verticesAt}
+use lib.ListN.{replicate}
+use Rattle.clique.specs.Comparing.{cells-length}
+use Rattle.zones.specs.Kinds.{enterMoves}
+use Rattle.motion.specs.World.{worldOf, madeAll}
+use Rattle.spec.specs.State.{across}
+use Rattle.spec.specs.State.{arrangementOf}
+use Rattle.motion.specs.States.{stateOf}
+use lib.ListN.{length, getD, take}
+use native.Mathlib.Omega.{arith}
+use Prim.Native.Nat.{ℕ, _+_, _-_}
+use mathlib.Core.List.{List}
+use mathlib.Core.Path.{_≡_, sym, ap, _∙_}
+use borrow.Author.Needs.{needs}
+use Rattle.resolve.proofs.step.enter_at.Statement.{statement}
+use Rattle.resolve.proofs.step.enter_at.Tie as tie
+
+element-copy-out-z : tie.Need-element-copy-out-z
+element-copy-out-z c = search needs
+
+cast-z : tie.Need-cast-z
+cast-z c = search needs
+
+element-copy-out-a : tie.Need-element-copy-out-a
+element-copy-out-a c = search needs
+
+cast-a : tie.Need-cast-a
+cast-a c = search needs
+
+element-copy-out-e : tie.Need-element-copy-out-e
+element-copy-out-e c = search needs
+
+cast-e : tie.Need-cast-e
+cast-e c = search needs
+
+add-e : tie.Need-add-e
+add-e c = search needs
+
+element-copy-out-j : tie.Need-element-copy-out-j
+element-copy-out-j c = search needs
+
+cast-j : tie.Need-cast-j
+cast-j c = search needs
+
+element-copy-out-enter-in : tie.Need-element-copy-out-enter-in
+element-copy-out-enter-in c = search needs
+
+sub-enter-in : tie.Need-sub-enter-in
+sub-enter-in c = search needs
+
+part-enter-in-start : tie.Need-part-enter-in-start
+part-enter-in-start c = search needs
+
+part-enter-in-end : tie.Need-part-enter-in-end
+part-enter-in-end c = search needs
+
+array-borrow-prefix-list : tie.Need-array-borrow-prefix-list
+array-borrow-prefix-list c = search needs
+
+slice-aggregate-enter-in : tie.Need-slice-aggregate-enter-in
+slice-aggregate-enter-in c = sym (cells-length (c .before .before .before .before .before .before .before .before .before .before .args .n) (c .before .before .before .before .before .before .before .before .before .before .pre .0 .0))
+
+enter-in-requires : tie.Need-enter-in-requires
+enter-in-requires c κs =
+    let a = c .before .before .before .before .before .before .before .before .before .before .before .args in
+    let z : ℕ = getD (a .zone .now) (a .v) 0 in
+    let x : length {A = ℕ} (take (a .n) (replicate 128 0)) ≡ a .n = cells-length (a .n) (c .before .before .before .before .before .before .before .before .before .before .before .pre .0 .0) in
+    ((rw (part (getD (a .first .now) z 0) (getD (a .size .now) z 0) (a .listed .now)) (c .before .before .before .before .before .before .before .before .before .before .before .pre .1 .0 .here .long), rw (part (getD (a .first .now) z 0) (getD (a .size .now) z 0) (a .listed .now)) (c .before .before .before .before .before .before .before .before .before .before .before .pre .1 .0 .inside), omega (arith, x, c .before .before .before .before .before .before .before .before .before .before .before .pre .0), omega (arith, x, c .before .before .before .before .before .before .before .before .before .before .before .pre .0)), (rw (part (getD (a .first .now) z 0) (getD (a .size .now) z 0) (a .listed .now)) (c .before .before .before .before .before .before .before .before .before .before .before .pre .1 .0 .here .once), rw x (c .before .before .before .before .before .before .before .before .before .before .before .pre .1 .1)))
+
+same-length : tie.Need-same-length
+same-length c = search needs
+
+returns : tie.Need-returns
+returns c =
+    let a = c .before .before .before .before .before .before .before .before .before .before .before .before .before .before .before .args in
+    let z : ℕ = getD (a .zone .now) (a .v) 0 in
+    let x : length {A = ℕ} (take (a .n) (replicate 128 0)) ≡ a .n = cells-length (a .n) (c .before .before .before .before .before .before .before .before .before .before .before .before .before .before .before .pre .0 .0) in
+    c .before .before .before .enter-in .ensures
+    ∙ ap (λ (vs : List ℕ). madeAll (worldOf (a .run) (a .out .now)) (across vs (enterMoves (kindAt (a .kind .now) (a .zone .now) (a .v)) (arrangementOf (stateOf (a .run .state)) vs) (getD (a .place .now) (a .v) 0) (a .behind) (heldPart (a .file .now) (a .from + length {A = ℕ} (take (a .n) (replicate 128 0))) (a .from) (length {A = ℕ} (take (a .n) (replicate 128 0))))))) (part (getD (a .first .now) z 0) (getD (a .size .now) z 0) (a .listed .now))
+    ∙ ap (λ (y : ℕ). madeAll (worldOf (a .run) (a .out .now)) (across (verticesAt (a .first .now) (a .size .now) (a .listed .now) (a .zone .now) (a .v)) (enterMoves (kindAt (a .kind .now) (a .zone .now) (a .v)) (arrangementOf (stateOf (a .run .state)) (verticesAt (a .first .now) (a .size .now) (a .listed .now) (a .zone .now) (a .v))) (getD (a .place .now) (a .v) 0) (a .behind) (heldPart (a .file .now) (a .from + y) (a .from) y)))) x
+
+pub enter-at-spec : {M : Type 1} → statement M
+enter-at-spec =
+    tie.close
+    (tie.spec
+    element-copy-out-z
+    cast-z
+    element-copy-out-a
+    cast-a
+    element-copy-out-e
+    cast-e
+    add-e
+    element-copy-out-j
+    cast-j
+    element-copy-out-enter-in
+    sub-enter-in
+    part-enter-in-start
+    part-enter-in-end
+    array-borrow-prefix-list
+    slice-aggregate-enter-in
+    enter-in-requires
+    same-length
+    returns)

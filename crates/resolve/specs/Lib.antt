@@ -1,0 +1,9 @@
+-- What the walk of a plan does, test by test and step by step, and the laws that tie it to the written meanings.
+pub mod Tests
+pub mod Fault
+pub mod Given
+pub mod Held
+pub mod Walk
+pub mod Steps
+pub mod Endings
+pub mod Whole

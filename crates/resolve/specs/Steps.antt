@@ -1,0 +1,260 @@
+-- A step by the tables and by the bytes of the file: its tests, and what its moves need.
+use mathlib.Core.Path.{_≡_, refl, sym, ap, _∙_}
+use mathlib.Core.Bool.{Bool, true, false}
+use mathlib.Core.List.{List, [], _∷_}
+use Prim.Native.Nat.{ℕ, _+_, _-_, _*_, _/_, _<_, _≤_}
+use native.Mathlib.Omega.{arith}
+use lib.ListN.{length, getD, take, drop}
+use lib.Dec.{eqb, eqb→eq}
+use mathlib.Core.Logic.{⊎-elim}
+use types.Run.{OneOf}
+use Rattle.spec.specs.Outcome.{Outcome, ok, refuse, _&&_}
+use Rattle.spec.specs.Layout.{Map, zoneOf, zoneAt}
+use Rattle.spec.specs.Arrangement.{mv, lastFree}
+use Rattle.spec.specs.State.{State, arrangementOf, across}
+use Rattle.spec.specs.ZoneKind.{canLeave, canEnter}
+use Rattle.spec.specs.Terms.{kindOf, placeOf, arrangementIn}
+use Rattle.theory.specs.Basics.Tests.{of-true, true-of, and-left, and-right}
+use Rattle.theory.specs.Zones.Crossing.{extraOf}
+use Rattle.theory.specs.Plans.Taken.{Taken}
+use Rattle.wire.specs.Payload.{payload, held-length, held-byte}
+use Rattle.wire.specs.Payload as wire
+use Rattle.motion.specs.World.{World, madeAll}
+use Rattle.motion.specs.World as world
+use Rattle.clique.specs.Entering.{Numbered, numbered-none, entered-numbered}
+use Rattle.zones.specs.Kinds.{leaveMoves, enterMoves, clique-can-enter}
+use Rattle.resolve.specs.Tests.{testOf, tests-passed, numbered, crosses, entryTests, stepTests, stepMoves, Passes, tests-number, tests-edge, tests-leave, tests-enter}
+use Rattle.resolve.specs.Given.{Given, Shown, Stepping, HasVertex, kindAt, verticesAt, has-vertex, kind-is, vertices-is, place-is, numbers-below}
+use Rattle.resolve.specs.Held.{heldPart, held-same, extra-most}
+use Rattle.resolve.specs.Walk.{step-made, Walking, WalkOf, walk-more, walk-refused}
+use Rattle.resolve.specs.declared.StepTest.{StepTest}
+use Rattle.resolve.specs.declared.StepTest.the-variants as step
+use Rattle.resolve.specs.declared.PlanFault.{PlanFault}
+use Rattle.resolve.specs.declared.PlanFault.the-variants as plan
+
+-- a byte of the payload that the code read in the file
+byte-is : (f : List ℕ) (len o x : ℕ) → len ≤ length f / 512 * 504 → o < len → x ≡ getD f (wire.placeOf o) 0 → x ≡ getD (take len (payload f)) o 0
+byte-is f len o x most h e = e ∙ sym (held-byte f len most o h)
+
+-- ---- the tests
+
+-- numbers that are below let the tables be read
+pub shown-vertices : (n k : ℕ) (kind first size listed zone place : List ℕ) (rows : List (List ℕ)) → Shown n k kind first size listed zone place rows → (r u v : ℕ) → true ≡ numbered n k r u v
+    → HasVertex first size listed zone place u × HasVertex first size listed zone place v
+shown-vertices n k kind first size listed zone place rows d r u v e =
+    let b = numbers-below n k r u v (sym e) in
+    (has-vertex (d .map) n k kind first size listed zone place rows (d .given) u (b .1), has-vertex (d .map) n k kind first size listed zone place rows (d .given) v (b .2))
+
+module _ (m : Map) (n k : ℕ) (kind first size listed zone place : List ℕ) (rows : List (List ℕ)) (d : Given m n k kind first size listed zone place rows)
+    (f : List ℕ) (len : ℕ) (most : len ≤ length f / 512 * 504) (i o : ℕ) (h : o + 4 ≤ len) (s : State) (r u v behind : ℕ)
+    (er : r ≡ getD f (wire.placeOf o) 0) (eu : u ≡ getD f (wire.placeOf (o + 1)) 0) (ev : v ≡ getD f (wire.placeOf (o + 2)) 0) (eb : behind ≡ getD f (wire.placeOf (o + 3)) 0) where
+  -- the four bytes are there
+  long : o + 4 ≤ length (take len (payload f))
+  long = omega (arith, held-length f len most)
+
+  -- the numbers are below those of the map
+  sized : numbered n k r u v ≡ numbered (m .size) k r u v
+  sized = ap (λ (x : ℕ). numbered x k r u v) (sym (d .vertices))
+
+  -- a number is too large
+  pub step-number : false ≡ numbered n k r u v → refuse 36 i ≡ stepTests m k (take len (payload f)) i o s
+  step-number e = tests-number m k (take len (payload f)) i o s r u v behind (byte-is f len o r most (omega arith) er) (byte-is f len (o + 1) u most (omega arith) eu)
+      (byte-is f len (o + 2) v most (omega arith) ev) (byte-is f len (o + 3) behind most (omega arith) eb) long (sym (e ∙ sized))
+
+  module _ (a : true ≡ numbered n k r u v) where
+    -- no edge, or the same zone
+    pub step-edge : false ≡ crosses m u v → refuse 37 i ≡ stepTests m k (take len (payload f)) i o s
+    step-edge e = tests-edge m k (take len (payload f)) i o s r u v behind (byte-is f len o r most (omega arith) er) (byte-is f len (o + 1) u most (omega arith) eu)
+        (byte-is f len (o + 2) v most (omega arith) ev) (byte-is f len (o + 3) behind most (omega arith) eb) long (sym (a ∙ sized)) (sym e)
+
+    module _ (b : true ≡ crosses m u v) where
+      -- leaving, by the tables
+      left : canLeave (kindAt kind zone u) (arrangementOf s (verticesAt first size listed zone u)) r (getD place u 0)
+          ≡ canLeave (kindOf m (zoneOf m u)) (arrangementIn m s (zoneOf m u)) r (placeOf m u)
+      left =
+          let x = numbers-below n k r u v (sym a) in
+          rw (kind-is m n k kind first size listed zone place rows d u (x .1), vertices-is m n k kind first size listed zone place rows d u (x .1), place-is m n k kind first size listed zone place rows d u (x .1))
+
+      -- entering, by the tables
+      entered : (i o r behind : ℕ) → entryTests (kindAt kind zone v) (arrangementOf s (verticesAt first size listed zone v)) (take len (payload f)) i o r (getD place v 0) behind
+          ≡ entryTests (kindOf m (zoneOf m v)) (arrangementIn m s (zoneOf m v)) (take len (payload f)) i o r (placeOf m v) behind
+      entered i o r behind =
+          let x = numbers-below n k _ u v (sym a) in
+          rw (kind-is m n k kind first size listed zone place rows d v (x .2), vertices-is m n k kind first size listed zone place rows d v (x .2), place-is m n k kind first size listed zone place rows d v (x .2))
+
+      -- the robot can't leave there
+      pub step-leave : false ≡ canLeave (kindAt kind zone u) (arrangementOf s (verticesAt first size listed zone u)) r (getD place u 0) → refuse 38 i ≡ stepTests m k (take len (payload f)) i o s
+      step-leave e = tests-leave m k (take len (payload f)) i o s r u v behind (byte-is f len o r most (omega arith) er) (byte-is f len (o + 1) u most (omega arith) eu)
+          (byte-is f len (o + 2) v most (omega arith) ev) (byte-is f len (o + 3) behind most (omega arith) eb) long (sym (a ∙ sized)) (sym b) (sym (e ∙ left))
+
+      -- what is left is the entry
+      pub step-enter : (x : Outcome ℕ) → true ≡ canLeave (kindAt kind zone u) (arrangementOf s (verticesAt first size listed zone u)) r (getD place u 0)
+          → x ≡ entryTests (kindAt kind zone v) (arrangementOf s (verticesAt first size listed zone v)) (take len (payload f)) i o r (getD place v 0) behind → x ≡ stepTests m k (take len (payload f)) i o s
+      step-enter x e t = t ∙ entered i o r behind
+          ∙ tests-enter m k (take len (payload f)) i o s r u v behind (byte-is f len o r most (omega arith) er) (byte-is f len (o + 1) u most (omega arith) eu)
+          (byte-is f len (o + 2) v most (omega arith) ev) (byte-is f len (o + 3) behind most (omega arith) eb) long (sym (a ∙ sized)) (sym b) (sym (e ∙ left))
+
+-- ---- the moves
+
+-- an empty list names nobody
+numbered-empty : (list : List ℕ) (j : ℕ) → length list ≡ 0 → Numbered list j
+numbered-empty [] j h = numbered-none j
+numbered-empty (x ∷ list) j h = absurd (omega arith)
+
+-- a follow list that is met names robots
+met-numbered : (kind : ℕ) (s : State) (vs : List ℕ) (r j behind : ℕ) (list : List ℕ) → canEnter kind (arrangementOf s vs) r j behind list ≡ true
+    → length list ≡ extraOf kind (arrangementOf s vs) → Numbered list j
+met-numbered kind s vs r j behind list c h = go (eqb kind 3 && lastFree (arrangementOf s vs)) refl h
+  where
+    go : (b : Bool) → (eqb kind 3 && lastFree (arrangementOf s vs)) ≡ b → length list ≡ elim b [ true ↦ length (arrangementOf s vs) | false ↦ 0 ] → Numbered list j
+    go true e h =
+        let t = of-true e in
+        entered-numbered s vs r j behind list (clique-can-enter kind (eqb→eq kind 3 (and-left _ _ t)) (arrangementOf s vs) r j behind list ∙ c) (true-of (and-right _ _ t))
+    go false e h = numbered-empty list j h
+
+module _ (f : List ℕ) (o e : ℕ) (kind first size listed zone place : List ℕ) (s : State) (st : Stepping f o e kind first size listed zone place s) where
+  -- the follow list is in the file
+  pub stepping-room : o + 4 + e ≤ length f / 512 * 504
+  stepping-room = omega (arith, st .passes .long, held-length f (st .len) (st .most), st .most)
+
+  -- the step is in the payload
+  within : o + 4 + e ≤ st .len
+  within = omega (arith, st .passes .long, held-length f (st .len) (st .most))
+
+  module _ (r u v behind : ℕ) (er : r ≡ getD f (wire.placeOf o) 0) (eu : u ≡ getD f (wire.placeOf (o + 1)) 0) (ev : v ≡ getD f (wire.placeOf (o + 2)) 0) (eb : behind ≡ getD f (wire.placeOf (o + 3)) 0) where
+    -- it passed, by the bytes that the code read
+    taken : Taken (st .map) (st .k) s r u v behind (take e (drop (o + 4) (take (st .len) (payload f))))
+    taken =
+        let a : r ≡ getD (take (st .len) (payload f)) o 0 = byte-is f (st .len) o r (st .most) (omega (arith, within)) er in
+        let b : u ≡ getD (take (st .len) (payload f)) (o + 1) 0 = byte-is f (st .len) (o + 1) u (st .most) (omega (arith, within)) eu in
+        let c : v ≡ getD (take (st .len) (payload f)) (o + 2) 0 = byte-is f (st .len) (o + 2) v (st .most) (omega (arith, within)) ev in
+        let d : behind ≡ getD (take (st .len) (payload f)) (o + 3) 0 = byte-is f (st .len) (o + 3) behind (st .most) (omega (arith, within)) eb in
+        rw (a, b, c, d) (st .passes .taken)
+
+    -- from is a vertex
+    small-u : u < st .n
+    small-u = omega (arith, taken .from, st .given .vertices)
+
+    -- to is a vertex
+    small-v : v < st .n
+    small-v = omega (arith, taken .to, st .given .vertices)
+
+    -- from is in the tables
+    pub stepping-from : HasVertex first size listed zone place u
+    stepping-from = has-vertex (st .map) (st .n) (st .k) kind first size listed zone place (st .rows) (st .given) u small-u
+
+    -- to as well
+    pub stepping-to : HasVertex first size listed zone place v
+    stepping-to = has-vertex (st .map) (st .n) (st .k) kind first size listed zone place (st .rows) (st .given) v small-v
+
+    -- the robot can leave
+    pub stepping-leaves : canLeave (kindAt kind zone u) (arrangementOf s (verticesAt first size listed zone u)) r (getD place u 0) ≡ true
+    stepping-leaves =
+        rw (
+          kind-is (st .map) (st .n) (st .k) kind first size listed zone place (st .rows) (st .given) u small-u,
+          vertices-is (st .map) (st .n) (st .k) kind first size listed zone place (st .rows) (st .given) u small-u,
+          place-is (st .map) (st .n) (st .k) kind first size listed zone place (st .rows) (st .given) u small-u,
+        )
+        (true-of (taken .leaves))
+
+    -- the length of the follow list
+    extra : e ≡ extraOf (kindOf (st .map) (zoneOf (st .map) v)) (arrangementIn (st .map) s (zoneOf (st .map) v))
+    extra = let c : v ≡ getD (take (st .len) (payload f)) (o + 2) 0 = byte-is f (st .len) (o + 2) v (st .most) (omega (arith, within)) ev in rw c (st .passes .extra)
+
+    -- the follow list is no longer than a zone
+    pub stepping-short : e ≤ 128
+    stepping-short = omega (
+      arith,
+      extra,
+      extra-most (kindOf (st .map) (zoneOf (st .map) v)) s (zoneAt (st .map) (zoneOf (st .map) v) .vertices),
+      ap length (vertices-is (st .map) (st .n) (st .k) kind first size listed zone place (st .rows) (st .given) v small-v),
+      stepping-to .here .long,
+    )
+
+    -- and names robots
+    pub stepping-named : Numbered (heldPart f (o + 4 + e) (o + 4) e) (getD place v 0)
+    stepping-named =
+        rw (held-same f (st .len) (o + 4) e (st .most) within, place-is (st .map) (st .n) (st .k) kind first size listed zone place (st .rows) (st .given) v small-v)
+        (met-numbered (kindOf (st .map) (zoneOf (st .map) v)) s (zoneAt (st .map) (zoneOf (st .map) v) .vertices) r (placeOf (st .map) v) behind _ (true-of (taken .enters)) (taken .listed))
+
+    -- leaving, entering and crossing are the step's moves
+    pub stepping-made : st .k ≤ 64 → (w a b c : World) → w .state ≡ s
+        → a ≡ madeAll w (across (verticesAt first size listed zone u) (leaveMoves (kindAt kind zone u) (arrangementOf s (verticesAt first size listed zone u)) r (getD place u 0)))
+        → b ≡ madeAll a (across (verticesAt first size listed zone v) (enterMoves (kindAt kind zone v) (arrangementOf (a .state) (verticesAt first size listed zone v)) (getD place v 0) behind (heldPart f (o + 4 + e) (o + 4) e)))
+        → c ≡ world.made b (mv r u v)
+        → c ≡ madeAll w (stepMoves (st .map) (take (st .len) (payload f)) o e s)
+    stepping-made few w a b c es ea eb′ ec =
+        let k1 = kind-is (st .map) (st .n) (st .k) kind first size listed zone place (st .rows) (st .given) u small-u in
+        let v1 = vertices-is (st .map) (st .n) (st .k) kind first size listed zone place (st .rows) (st .given) u small-u in
+        let p1 = place-is (st .map) (st .n) (st .k) kind first size listed zone place (st .rows) (st .given) u small-u in
+        let k2 = kind-is (st .map) (st .n) (st .k) kind first size listed zone place (st .rows) (st .given) v small-v in
+        let v2 = vertices-is (st .map) (st .n) (st .k) kind first size listed zone place (st .rows) (st .given) v small-v in
+        let p2 = place-is (st .map) (st .n) (st .k) kind first size listed zone place (st .rows) (st .given) v small-v in
+        let hs = held-same f (st .len) (o + 4) e (st .most) within in
+        let q1 : r ≡ getD (take (st .len) (payload f)) o 0 = byte-is f (st .len) o r (st .most) (omega (arith, within)) er in
+        let q2 : u ≡ getD (take (st .len) (payload f)) (o + 1) 0 = byte-is f (st .len) (o + 1) u (st .most) (omega (arith, within)) eu in
+        let q3 : v ≡ getD (take (st .len) (payload f)) (o + 2) 0 = byte-is f (st .len) (o + 2) v (st .most) (omega (arith, within)) ev in
+        let q4 : behind ≡ getD (take (st .len) (payload f)) (o + 3) 0 = byte-is f (st .len) (o + 3) behind (st .most) (omega (arith, within)) eb in
+        rw (← q1, ← q2, ← q3, ← q4)
+        (step-made (st .map) (st .given .accepted) (st .k) few s (st .consistent) r u v behind _ taken w a b c es (rw (k1, v1, p1) at ea) (rw (k2, v2, p2, hs) at eb′) ec)
+
+-- ---- a walk's steps
+
+-- a test that passed
+pub test-passed : (i : ℕ) (t : StepTest) (e : ℕ) (x : Outcome ℕ) → testOf i t ≡ x → t ≡ step.Passed e → x ≡ ok e
+test-passed i t e x h q = sym h ∙ ap (testOf i) q
+
+-- the refusal of step i that did not pass
+abbrev pub refusalOf : ℕ → StepTest → PlanFault
+refusalOf i (step.Passed e) = plan.None
+refusalOf i step.Short = plan.Short i
+refusalOf i step.Number = plan.Number i
+refusalOf i step.Edge = plan.Edge i
+refusalOf i step.Leave = plan.Leave i
+refusalOf i step.Enter = plan.Enter i
+
+module _ (m : Map) (n k : ℕ) (kind first size listed zone place : List ℕ) (rows : List (List ℕ)) (d : Given m n k kind first size listed zone place rows)
+    (f : List ℕ) (len : ℕ) (most : len ≤ length f / 512 * 504) (count : ℕ) (w₀ : World) (i o : ℕ) (w : World) (g : Walking m k (take len (payload f)) count w₀ i o w) where
+  -- the next step is in the payload
+  pub walking-offset : o ≤ len
+  walking-offset = omega (arith, g .offset, held-length f len most)
+
+  module _ (t : StepTest) (h : testOf i t ≡ stepTests m k (take len (payload f)) i o (w .state)) where
+    -- a step that passed
+    pub walking-passes : (e : ℕ) → t ≡ step.Passed e → Passes m k (take len (payload f)) o (w .state) e
+    walking-passes e q = tests-passed m k (take len (payload f)) i o (w .state) e (test-passed i t e _ h q)
+
+    -- what it needs
+    pub walking-step : (e : ℕ) → t ≡ step.Passed e → Stepping f o e kind first size listed zone place (w .state)
+    walking-step e q = record {
+      map = m;
+      n = n;
+      k = k;
+      rows = rows;
+      given = d;
+      consistent = g .consistent;
+      len = len;
+      most = most;
+      passes = walking-passes e q;
+    }
+
+    -- its moves are made
+    pub walking-next : (e : ℕ) → t ≡ step.Passed e → (u : World) → i < count → u ≡ madeAll w (stepMoves m (take len (payload f)) o e (w .state))
+        → Walking m k (take len (payload f)) count w₀ (i + 1) (o + 4 + e) u
+    walking-next e q u l x = walk-more m (d .accepted) k (d .few) (take len (payload f)) count w₀ i o w g e u l (test-passed i t e _ h q) x
+
+    -- a step that did not pass is refused
+    pub walking-stop : ((e : ℕ) → t ≡ step.Passed e → ⊥) → i < count → WalkOf m k (take len (payload f)) count w₀ (refusalOf i t) o w
+    walking-stop z l = stop t z h
+      where
+        stop : (t : StepTest) → ((e : ℕ) → t ≡ step.Passed e → ⊥) → testOf i t ≡ stepTests m k (take len (payload f)) i o (w .state) → WalkOf m k (take len (payload f)) count w₀ (refusalOf i t) o w
+        stop (step.Passed e) z h = absurd (z e refl)
+        stop step.Short z h = walk-refused m (d .accepted) k (d .few) (take len (payload f)) count w₀ i o w g (plan.Short i) 35 o l (sym h) (λ r. refl)
+        stop step.Number z h = walk-refused m (d .accepted) k (d .few) (take len (payload f)) count w₀ i o w g (plan.Number i) 36 o l (sym h) (λ r. refl)
+        stop step.Edge z h = walk-refused m (d .accepted) k (d .few) (take len (payload f)) count w₀ i o w g (plan.Edge i) 37 o l (sym h) (λ r. refl)
+        stop step.Leave z h = walk-refused m (d .accepted) k (d .few) (take len (payload f)) count w₀ i o w g (plan.Leave i) 38 o l (sym h) (λ r. refl)
+        stop step.Enter z h = walk-refused m (d .accepted) k (d .few) (take len (payload f)) count w₀ i o w g (plan.Enter i) 39 o l (sym h) (λ r. refl)
+
+-- one of the other variants did not pass
+pub other-tag : (x : ℕ) → OneOf (1 ∷ 2 ∷ 3 ∷ 4 ∷ 5 ∷ []) x → x ≡ 0 → ⊥
+other-tag x h e = ⊎-elim (λ a. omega arith) (⊎-elim (λ a. omega arith) (⊎-elim (λ a. omega arith) (⊎-elim (λ a. omega arith) (λ a. omega arith)))) h
