@@ -21,6 +21,7 @@ use Rattle.theory.specs.Basics.Tests.{and-right}
 use Rattle.theory.specs.Basics.Outcomes.{ok-injective, passed, bound, seq-ok, bind}
 use Rattle.theory.specs.Codec.Written.{written-bytes}
 use Rattle.theory.specs.Maps.Layout.{Accepted, map-accepted}
+use Rattle.theory.specs.Maps.Placing.{Placed, placing-accepted}
 use Rattle.theory.specs.Services.Places.{Small, small-payload, small-map, small-placing, small-checked, count-small}
 use Rattle.adjacency.specs.Rows.{Shows}
 use Rattle.layout.specs.Fault as mapFault
@@ -35,6 +36,7 @@ use Rattle.replay.specs.Drawn.{EndsOn}
 use Rattle.galzpuna.specs.Refusals.{refusalOr, movesFile, movesList}
 use Rattle.galzpuna.specs.declared.Refusal.{Refusal}
 use Rattle.galzpuna.specs.declared.Opened.{Opened}
+use Rattle.galzpuna.specs.declared.Yard.{Yard}
 
 -- ---- outcomes
 
@@ -49,12 +51,12 @@ refusal-none n p a h = ap (λ (x : ℕ). refusalOr x p a) h
 
 module _ {A B : Type 0} where
   -- a step that refuses is the chain's refusal
-  refused-bind : (o : Outcome A) (f : A → Outcome B) (n p : ℕ) → o ≡ refuse n p → (o >>= f) ≡ refuse n p
+  pub refused-bind : (o : Outcome A) (f : A → Outcome B) (n p : ℕ) → o ≡ refuse n p → (o >>= f) ≡ refuse n p
   unfolding _>>=_
   refused-bind o f n p e = rw e
 
   -- a chain that refuses did so at its first step or after it
-  refused-where : (o : Outcome A) (f : A → Outcome B) (n p : ℕ) → (o >>= f) ≡ refuse n p → (o ≡ refuse n p) ⊎ ((x : A) × (o ≡ ok x) × (f x ≡ refuse n p))
+  pub refused-where : (o : Outcome A) (f : A → Outcome B) (n p : ℕ) → (o >>= f) ≡ refuse n p → (o ≡ refuse n p) ⊎ ((x : A) × (o ≡ ok x) × (f x ≡ refuse n p))
   unfolding _>>=_
   refused-where (ok x) f n p e = inr (x, refl, e)
   refused-where (refuse m q) f n p e = let x : m ≡ n = cc in let y : q ≡ p = cc in inl (rw (x, y))
@@ -113,7 +115,7 @@ both-read a b m pl e f =
     bind _ _ _ (x .1) ∙ bind _ _ _ (x .2) ∙ bind _ _ _ (y .1) ∙ bind _ _ _ (y .2)
 
 -- a refusal's place is small
-small-at : {A : Type 0} (b n q : ℕ) (o : Outcome A) → Small b o → o ≡ refuse n q → q < b
+pub small-at : {A : Type 0} (b n q : ℕ) (o : Outcome A) → Small b o → o ≡ refuse n q → q < b
 small-at b n q o h e = rw e at h
 
 small-bind′ : {A B : Type 0} (b n q : ℕ) (o : Outcome A) (f : A → Outcome B) → Small b o → ((x : A) → o ≡ ok x → Small b (f x)) → (o >>= f) ≡ refuse n q → q < b
@@ -139,6 +141,22 @@ pub record ListRead (a b c : List ℕ) (map : MapRead) (placing : PlacingRead) (
   pub accepted : Accepted (it .graph)
   pub robots : PlacingHeld placing (it .placing)
   pub ends : EndsOn (it .graph) (fileBytes c) n
+
+-- a map and a placing that are accepted, as the code holds them
+pub record YardRead (a b : List ℕ) (map : MapRead) (placing : PlacingRead) (rows : List (List ℕ)) : Type 0 where
+  pub it : Instance
+  pub instance : instanceOf a b ≡ ok it
+  pub held : MapHeld map (it .graph)
+  pub accepted : Accepted (it .graph)
+  pub robots : PlacingHeld placing (it .placing)
+  pub placed : Placed (it .graph .size) (it .placing)
+  pub shown : Shows rows (it .graph .edges)
+
+-- they are read, or refused
+pub record YardIs (a b : List ℕ) (rows : List (List ℕ)) (r : Yard) : Type 0 where
+  pub refused : (r .refusal .number ≡ 0 → ⊥) → instanceOf a b ≡ refuse (r .refusal .number) (r .refusal .place)
+  pub small : r .refusal .place < 65536
+  pub read : r .refusal .number ≡ 0 → YardRead a b (r .map) (r .placing) rows
 
 -- it is opened, or refused as the services refuse
 pub record OpenedIs (a b c : List ℕ) (r : Opened) : Type 0 where
@@ -211,6 +229,12 @@ module _ (a b c : List ℕ) (ha : Bytes a) (hc : Bytes c) (map : MapRead) (rows 
       let w : mapIn a ≡ refuse n q = map-is ∙ refusal-some n q (mapOr (mapIn a)) h in
       record { refused = λ z K. chain-instance a b c K n q (map-refused a b n q w); small = map-place a n q ha w; opened = λ z. absurd (h z) }
 
+  -- so is the yard
+  pub yard-map : (n ≡ 0 → ⊥) → (pl : PlacingRead) → YardIs a b rows (record { refusal = record { number = n; place = q }; map = map; placing = pl })
+  yard-map h pl =
+      let w : mapIn a ≡ refuse n q = map-is ∙ refusal-some n q (mapOr (mapIn a)) h in
+      record { refused = λ z. map-refused a b n q w; small = map-place a n q ha w; read = λ z. absurd (h z) }
+
   module _ (z : n ≡ 0) where
     m : Map
     m = mapOr (mapIn a)
@@ -237,6 +261,32 @@ module _ (a b c : List ℕ) (ha : Bytes a) (hc : Bytes c) (map : MapRead) (rows 
       opened-placing h k =
           let w : placingIn m b ≡ refuse n₁ q₁ = placing-is ∙ refusal-some n₁ q₁ (placingOr (placingIn m b)) h in
           record { refused = λ y K. chain-instance a b c K n₁ q₁ (placing-refused a b m n₁ q₁ map-read w); small = placing-place m b n₁ q₁ w; opened = λ y. absurd (h y) }
+
+      -- so is the yard
+      pub yard-placing : (n₁ ≡ 0 → ⊥) → YardIs a b rows (record { refusal = record { number = n₁; place = q₁ }; map = map; placing = pl })
+      yard-placing h =
+          let w : placingIn m b ≡ refuse n₁ q₁ = placing-is ∙ refusal-some n₁ q₁ (placingOr (placingIn m b)) h in
+          record { refused = λ y. placing-refused a b m n₁ q₁ map-read w; small = placing-place m b n₁ q₁ w; read = λ y. absurd (h y) }
+
+      -- both are read
+      pub yard-all : n₁ ≡ 0 → q₁ < 65536 → YardIs a b rows (record { refusal = record { number = n₁; place = q₁ }; map = map; placing = pl })
+      unfolding m
+      yard-all z₁ hq =
+          let w : placingIn m b ≡ ok (placingOr (placingIn m b)) = placing-is ∙ refusal-none n₁ q₁ (placingOr (placingIn m b)) z₁ in
+          let x = bound (payloadOf 20 2 1 b) (placingOf m) (placingOr (placingIn m b)) w in
+          record {
+            refused = λ y. absurd (y z₁);
+            small = hq;
+            read = λ y. record {
+              it = record { graph = m; placing = placingOr (placingIn m b) };
+              instance = both-read a b m (placingOr (placingIn m b)) map-read w;
+              held = r .tables;
+              accepted = acc;
+              robots = there .tables;
+              placed = placing-accepted m (x .0) (placingOr (placingIn m b)) (x .2);
+              shown = r .shown;
+            };
+          }
 
       -- the robots are few
       pub robots-few : pl .robots ≤ 64

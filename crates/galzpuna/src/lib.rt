@@ -30,3 +30,16 @@ pub struct Opened {
     pub placing: placing::PlacingRead,
     pub count: usize,
 }
+
+// A map and a placing that are accepted; or why not.
+pub struct Yard {
+    pub refusal: Refusal,
+    pub map: layout::MapRead,
+    pub placing: placing::PlacingRead,
+}
+
+// How many moves a plan was resolved into; or why not.
+pub struct Planned {
+    pub refusal: Refusal,
+    pub count: usize,
+}

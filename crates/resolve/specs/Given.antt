@@ -146,7 +146,7 @@ module _ (m : Map) (n k : ℕ) (kind first size listed zone place : List ℕ) (r
 
     -- its zone is one of the map's
     in-range : getD zone v 0 < zoneCount m
-    in-range = rw zone-is (d .accepted .placed v small .0)
+    in-range = rw zone-is (d .accepted .placed v small .zone)
 
     -- of its kind
     pub kind-is : kindAt kind zone v ≡ kindOf m (zoneOf m v)
@@ -160,7 +160,7 @@ module _ (m : Map) (n k : ℕ) (kind first size listed zone place : List ℕ) (r
     pub has-vertex : HasVertex first size listed zone place v
     has-vertex = record {
       below = omega (arith, d .accepted .small, small);
-      inside = rw (vertices-is, place-is) (d .accepted .placed v small .1);
+      inside = rw (vertices-is, place-is) (d .accepted .placed v small .place);
       here = has-zone (getD zone v 0) in-range;
     }
 
