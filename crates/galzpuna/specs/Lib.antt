@@ -2,3 +2,5 @@
 pub mod Refusals
 pub mod Opened
 pub mod Services
+pub mod Planned
+pub mod Terms

@@ -155,7 +155,7 @@ pub record YardRead (a b : List ℕ) (map : MapRead) (placing : PlacingRead) (ro
 -- they are read, or refused
 pub record YardIs (a b : List ℕ) (rows : List (List ℕ)) (r : Yard) : Type 0 where
   pub refused : (r .refusal .number ≡ 0 → ⊥) → instanceOf a b ≡ refuse (r .refusal .number) (r .refusal .place)
-  pub small : r .refusal .place < 65536
+  pub small : (r .refusal .number ≡ 0 → ⊥) → r .refusal .place < 65536
   pub read : r .refusal .number ≡ 0 → YardRead a b (r .map) (r .placing) rows
 
 -- it is opened, or refused as the services refuse
@@ -233,7 +233,7 @@ module _ (a b c : List ℕ) (ha : Bytes a) (hc : Bytes c) (map : MapRead) (rows 
   pub yard-map : (n ≡ 0 → ⊥) → (pl : PlacingRead) → YardIs a b rows (record { refusal = record { number = n; place = q }; map = map; placing = pl })
   yard-map h pl =
       let w : mapIn a ≡ refuse n q = map-is ∙ refusal-some n q (mapOr (mapIn a)) h in
-      record { refused = λ z. map-refused a b n q w; small = map-place a n q ha w; read = λ z. absurd (h z) }
+      record { refused = λ z. map-refused a b n q w; small = λ z. map-place a n q ha w; read = λ z. absurd (h z) }
 
   module _ (z : n ≡ 0) where
     m : Map
@@ -266,17 +266,17 @@ module _ (a b c : List ℕ) (ha : Bytes a) (hc : Bytes c) (map : MapRead) (rows 
       pub yard-placing : (n₁ ≡ 0 → ⊥) → YardIs a b rows (record { refusal = record { number = n₁; place = q₁ }; map = map; placing = pl })
       yard-placing h =
           let w : placingIn m b ≡ refuse n₁ q₁ = placing-is ∙ refusal-some n₁ q₁ (placingOr (placingIn m b)) h in
-          record { refused = λ y. placing-refused a b m n₁ q₁ map-read w; small = placing-place m b n₁ q₁ w; read = λ y. absurd (h y) }
+          record { refused = λ y. placing-refused a b m n₁ q₁ map-read w; small = λ y. placing-place m b n₁ q₁ w; read = λ y. absurd (h y) }
 
       -- both are read
-      pub yard-all : n₁ ≡ 0 → q₁ < 65536 → YardIs a b rows (record { refusal = record { number = n₁; place = q₁ }; map = map; placing = pl })
+      pub yard-all : n₁ ≡ 0 → YardIs a b rows (record { refusal = record { number = n₁; place = q₁ }; map = map; placing = pl })
       unfolding m
-      yard-all z₁ hq =
+      yard-all z₁ =
           let w : placingIn m b ≡ ok (placingOr (placingIn m b)) = placing-is ∙ refusal-none n₁ q₁ (placingOr (placingIn m b)) z₁ in
           let x = bound (payloadOf 20 2 1 b) (placingOf m) (placingOr (placingIn m b)) w in
           record {
             refused = λ y. absurd (y z₁);
-            small = hq;
+            small = λ y. absurd (y z₁);
             read = λ y. record {
               it = record { graph = m; placing = placingOr (placingIn m b) };
               instance = both-read a b m (placingOr (placingIn m b)) map-read w;

@@ -1,11 +1,23 @@
 // Map, placing and move list, read and checked in document 01's order of files.
 ghost use mathlib.Core.Path.{_≡_};
-ghost use Rattle.galzpuna.specs.Opened.{OpenedIs};
+ghost use Prim.Native.Nat.{_*_, _/_, _≤_};
+ghost use lib.ListN.{length, take};
+ghost use Rattle.spec.specs.Layout.{Map, Placing};
+ghost use Rattle.spec.specs.Terms.{zoneCount};
+ghost use Rattle.theory.specs.Maps.Placing.{Placed};
+ghost use Rattle.wire.specs.Payload.{payload};
+ghost use Rattle.resolve.specs.Given.{Given, Placement};
+ghost use Rattle.resolve.specs.Whole.{ResolvedTo};
+ghost use Rattle.galzpuna.specs.Opened.{OpenedIs, YardIs};
+ghost use Rattle.galzpuna.specs.Planned.{PlannedIs};
 use crate::Opened;
+use crate::Planned;
 use crate::Refusal;
+use crate::Yard;
 use crate::refusals;
 use layout::MapRead;
 use placing::PlacingRead;
+use resolve::Resolved;
 
 // A placing of no robots, where none is read.
 fn no_placing() -> PlacingRead {
@@ -66,5 +78,109 @@ pub fn open_list(map: &[u8], placed: &[u8], moves: &[u8]) -> Opened
         map: m,
         placing: p,
         count: d.place,
+    }
+}
+
+// A map and a placing, or a refusal.
+fn yard(r: Refusal, m: MapRead, p: PlacingRead) -> Yard
+    ensures { λ y. ⌜ y ≡ record { refusal = r; map = m; placing = p } ⌝ }
+{
+    Yard {
+        refusal: r,
+        map: m,
+        placing: p,
+    }
+}
+
+// Reads map and placing; the rows are the map's edges.
+pub fn read_yard(map: &[u8], placed: &[u8], rows: &mut [[u64; 2]; 128]) -> Yard
+    ensures { λ y. ⌜ YardIs (now (map .entry)) (now (placed .entry)) (now (rows .exit)) y ⌝ }
+{
+    let m = layout::map::read_map(map, rows);
+    let unmapped = m.fault;
+    let n = m.vertices as usize;
+    let a = refusals::of_map(unmapped);
+    if a.number != 0 {
+        return yard(a, m, no_placing());
+    }
+    let p = placing::read_placing(placed, n);
+    let unplaced = p.fault;
+    let b = refusals::of_placing(unplaced);
+    if b.number != 0 {
+        return yard(b, m, p);
+    }
+    yard(b, m, p)
+}
+
+// Resolves the plan in a checked file on a map and a placing that were read.
+fn resolve_on(
+    plan: &[u8],
+    len: usize,
+    m: MapRead,
+    listed: [u8; 128],
+    rows: &[[u64; 2]; 128],
+    p: PlacingRead,
+    out: &mut [u8],
+) -> Resolved
+    requires { ⌜ (len ≤ length (now plan) / 512 * 504) × (len ≤ 32256) ⌝ }
+    requires { ⌜ Placement (m .vertices) (m .zones) (p .robots) (m .kind) (m .first) (m .size) listed (m .zone) (m .place) (now rows) (p .starts) (p .goals) ⌝ }
+    ensures { λ r. ⌜ ((x : Map) (y : Placing) → Given x (m .vertices) (p .robots) (m .kind) (m .first) (m .size) listed (m .zone) (m .place) (now (rows .entry)) → zoneCount x ≡ m .zones → Placed (x .size) y → y .starts ≡ take (p .robots) (p .starts) → y .goals ≡ take (p .robots) (p .goals) → ResolvedTo x y (take len (payload (now (plan .entry)))) (now (out .entry)) (now (out .exit)) r) ⌝ }
+{
+    let kind = m.kind;
+    let first = m.first;
+    let size = m.size;
+    let zone = m.zone;
+    let place = m.place;
+    let starts = p.starts;
+    let goals = p.goals;
+    resolve::resolve_plan(
+        plan,
+        len,
+        &kind,
+        &first,
+        &size,
+        &listed,
+        &zone,
+        &place,
+        rows,
+        m.vertices as usize,
+        m.zones as usize,
+        starts,
+        goals,
+        p.robots as usize,
+        out,
+    )
+}
+
+// Reads map, placing and plan, and resolves the plan: its moves are laid into the buffer, after the two bytes of the count.
+pub fn resolve_files(map: &[u8], placed: &[u8], plan: &[u8], out: &mut [u8]) -> Planned
+    ensures { λ r. ⌜ PlannedIs (now (map .entry)) (now (placed .entry)) (now (plan .entry)) (now (out .entry)) r (now (out .exit)) ⌝ }
+{
+    let mut rows = [[0u64; 2]; 128];
+    let y = read_yard(map, placed, &mut rows);
+    let a = y.refusal;
+    if a.number != 0 {
+        return Planned {
+            refusal: a,
+            count: 0,
+        };
+    }
+    let checked = wire::check_file(plan, 3, 64);
+    let c = refusals::of_plan_file(checked);
+    if c.number != 0 {
+        return Planned {
+            refusal: c,
+            count: 0,
+        };
+    }
+    let m = y.map;
+    let p = y.placing;
+    let listed = m.listed;
+    let r = resolve_on(plan, c.place, m, listed, &rows, p, out);
+    let fault = r.fault;
+    let d = refusals::of_plan(fault);
+    Planned {
+        refusal: d,
+        count: r.count,
     }
 }

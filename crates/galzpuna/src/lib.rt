@@ -2,12 +2,14 @@
 //
 //     refusals   document 01's number and place for each refusal
 //     files      map, placing and move list read and checked
-//     services   drawing and rounds
+//     services   judging, resolving, drawing and rounds
 mod files;
 mod refusals;
 pub mod services;
 
 pub use services::galzpuna_draw;
+pub use services::galzpuna_judge;
+pub use services::galzpuna_resolve;
 pub use services::galzpuna_rounds;
 
 // What a service returns: the number, and the place of a refusal or the bytes written.

@@ -5,13 +5,16 @@ ghost use mathlib.Core.List.{List};
 ghost use Rattle.spec.specs.Layout.{Map, Placing};
 ghost use Rattle.layout.specs.Fault as mapFault;
 ghost use Rattle.placing.specs.Fault as placingFault;
+ghost use Rattle.spec.specs.Arrangement.{Move};
 ghost use Rattle.replay.specs.Check.{moveListOf};
+ghost use Rattle.resolve.specs.Fault.{faultOf};
 ghost use Rattle.wire.specs.Checked.{checkedOf};
 ghost use Rattle.galzpuna.specs.Refusals.{refusalOr, movesFile, movesList};
 use crate::Refusal;
 use layout::MapFault;
 use placing::PlacingFault;
 use replay::MoveList;
+use resolve::PlanFault;
 use wire::Checked;
 
 // A map's: 11 to 19.
@@ -163,6 +166,72 @@ pub fn of_list(list: MoveList) -> Refusal
         MoveList::Goal(r) => Refusal {
             number: 51,
             place: r,
+        },
+    }
+}
+
+// A plan's file: 31 to 34; where there is no refusal, the place is the payload's length.
+pub fn of_plan_file(checked: Checked) -> Refusal
+    ensures { λ r. ⌜ ((f : List ℕ) → movesFile (r .number) (r .place) f ≡ checkedOf 30 f checked) ⌝ }
+    ensures { λ r. ⌜ (r .number ≡ 0 → checked ≡ Checked.Payload (r .place)) ⌝ }
+{
+    match checked {
+        Checked::Payload(len) => Refusal {
+            number: 0,
+            place: len,
+        },
+        Checked::Length => Refusal {
+            number: 31,
+            place: 0,
+        },
+        Checked::Checksum(i) => Refusal {
+            number: 32,
+            place: i,
+        },
+        Checked::Head(i) => Refusal {
+            number: 33,
+            place: i,
+        },
+        Checked::Fill(i) => Refusal {
+            number: 34,
+            place: i,
+        },
+    }
+}
+
+// A plan's: 35 to 39 and 50.
+pub fn of_plan(fault: PlanFault) -> Refusal
+    ensures { λ r. ⌜ ((ms : List Move) → refusalOr (r .number) (r .place) ms ≡ faultOf fault ms) ⌝ }
+    ensures { λ r. ⌜ (r .number ≡ 0 → fault ≡ PlanFault.None) ⌝ }
+{
+    match fault {
+        PlanFault::None => Refusal {
+            number: 0,
+            place: 0,
+        },
+        PlanFault::Short(i) => Refusal {
+            number: 35,
+            place: i,
+        },
+        PlanFault::Number(i) => Refusal {
+            number: 36,
+            place: i,
+        },
+        PlanFault::Edge(i) => Refusal {
+            number: 37,
+            place: i,
+        },
+        PlanFault::Leave(i) => Refusal {
+            number: 38,
+            place: i,
+        },
+        PlanFault::Enter(i) => Refusal {
+            number: 39,
+            place: i,
+        },
+        PlanFault::Goal(z) => Refusal {
+            number: 50,
+            place: z,
         },
     }
 }

@@ -2,10 +2,12 @@
 ghost use mathlib.Core.Path.{_≡_};
 ghost use Prim.Native.Nat.{_<_};
 ghost use lib.ListN.{length};
-ghost use Rattle.spec.specs.Services.{drawing, rounds};
+ghost use mathlib.Core.List.{[]};
+ghost use Rattle.spec.specs.Services.{judging, resolving, drawing, rounds};
 ghost use Rattle.galzpuna.specs.Services.{answered, refusal};
 use crate::Answer;
 use crate::files::open_list;
+use crate::files::resolve_files;
 
 // Gives a refusal, and leaves the whole buffer zero.
 fn refuse(out: &mut [u8], number: u32, place: usize) -> Answer
@@ -66,6 +68,53 @@ pub extern "C" fn galzpuna_rounds(
     replay::write_rounds(moves, count, out);
     wire::put_word(out, 0, count);
     let w = wire::deliver(out, 5, 128, 2 + count * 2);
+    Answer {
+        number: w.number,
+        place: w.value,
+    }
+}
+
+// Judging: is the plan cleared? Nothing is written.
+#[no_mangle]
+pub extern "C" fn galzpuna_judge(map: &[u8], placing: &[u8], plan: &[u8]) -> Answer
+    ensures { λ r. ⌜ answered r [] ≡ judging (now (map .entry)) (now (placing .entry)) (now (plan .entry)) ⌝ }
+{
+    let mut none = [0u8; 1];
+    let o = resolve_files(map, placing, plan, &mut none);
+    let f = o.refusal;
+    let number = f.number;
+    if number != 0 {
+        let place = f.place;
+        return Answer {
+            number: number,
+            place: place as u32,
+        };
+    }
+    Answer {
+        number: 0,
+        place: 0,
+    }
+}
+
+// Resolving: the move list of a plan that is cleared.
+#[no_mangle]
+pub extern "C" fn galzpuna_resolve(
+    map: &[u8],
+    placing: &[u8],
+    plan: &[u8],
+    out: &mut [u8],
+) -> Answer
+    ensures { λ r. ⌜ answered r (now (out .exit)) ≡ resolving (now (map .entry)) (now (placing .entry)) (now (plan .entry)) (length (now (out .entry))) ⌝ }
+{
+    let o = resolve_files(map, placing, plan, out);
+    let f = o.refusal;
+    let number = f.number;
+    if number != 0 {
+        return refuse(out, number, f.place);
+    }
+    let count = o.count;
+    wire::put_word(out, 0, count);
+    let w = wire::deliver(out, 4, 128, 2 + count * 3);
     Answer {
         number: w.number,
         place: w.value,

@@ -1,0 +1,176 @@
+-- A plan that is read and resolved, and what judging and resolving are then.
+use mathlib.Core.Path.{_≡_, refl, sym, ap, ap₂, _∙_}
+use Prim.Native.Nat.{ℕ, zero, suc, _+_, _*_, _/_, _≤_, _<_, _^_}
+use native.Mathlib.Omega.{arith}
+use mathlib.Core.List.{List, [], _∷_, _++_}
+use lib.ListN.{length, getD, take, drop, replicate}
+use Rattle.spec.specs.Outcome.{Outcome, ok, refuse, _>>=_, u16}
+use Rattle.spec.specs.Wire.{payloadOf}
+use Rattle.spec.specs.Layout.{Map, Placing, Zone, zoneOf, zoneAt}
+use Rattle.spec.specs.Arrangement.{Move}
+use Rattle.spec.specs.State.{moveBytes, movesPayload}
+use Rattle.spec.specs.Run.{resolvedMoves}
+use Rattle.spec.specs.Services as meaning
+use Rattle.spec.specs.Terms.{Bytes, zoneCount, kindOf, placeOf}
+use Rattle.theory.specs.Basics.Outcomes.{bind}
+use Rattle.theory.specs.Basics.Lists.{getD-default}
+use Rattle.theory.specs.Codec.Written.{written-bytes}
+use Rattle.theory.specs.Maps.Placing.{Placed}
+use Rattle.theory.specs.Services.Places.{Small, small-payload, small-resolved}
+use Rattle.theory.specs.Bounds.{plan-bound}
+use Rattle.layout.specs.declared.MapRead.{MapRead}
+use Rattle.placing.specs.declared.PlacingRead.{PlacingRead}
+use Rattle.wire.specs.Payload.{payload}
+use Rattle.wire.specs.Checked.{Whole}
+use Rattle.wire.specs.Laid.{laidAll}
+use Rattle.wire.specs.Delivered.{deliveredOf, delivered-counted}
+use Rattle.zones.specs.Tables.{Tables}
+use Rattle.resolve.specs.Given.{Given, Placement}
+use Rattle.resolve.specs.Fault.{faultOf}
+use Rattle.resolve.specs.Whole.{ResolvedTo}
+use Rattle.resolve.specs.declared.PlanFault.{PlanFault}
+use Rattle.resolve.specs.declared.PlanFault.the-variants as plan
+use Rattle.resolve.specs.declared.Resolved.{Resolved}
+use Rattle.galzpuna.specs.declared.Answer.{Answer}
+use Rattle.galzpuna.specs.declared.Yard.{Yard}
+use Rattle.galzpuna.specs.declared.Planned.{Planned}
+use Rattle.galzpuna.specs.Refusals.{refusalOr, movesFile}
+use Rattle.galzpuna.specs.Opened.{refusal-some, refusal-none, refused-bind, small-at, YardRead, YardIs}
+use Rattle.galzpuna.specs.Services.{refusal}
+
+-- what resolving the three files comes to: the list, counted and laid in the buffer; or the refusal
+pub record Moves (a b c o₀ : List ℕ) (count : ℕ) (o : List ℕ) : Type 0 where
+  pub moves : List Move
+  pub resolved : meaning.planMoves a b c ≡ ok moves
+  pub counted : count ≡ length moves
+  pub laid : o ≡ laidAll o₀ 2 (moveBytes moves)
+
+pub record PlannedIs (a b c o₀ : List ℕ) (r : Planned) (o : List ℕ) : Type 0 where
+  pub refused : (r .refusal .number ≡ 0 → ⊥) → meaning.planMoves a b c ≡ refuse (r .refusal .number) (r .refusal .place)
+  pub small : (r .refusal .number ≡ 0 → ⊥) → r .refusal .place < 65536
+  pub resolved : r .refusal .number ≡ 0 → Moves a b c o₀ (r .count) o
+  pub long : length o ≡ length o₀
+
+-- ---- the tables that the resolver is given
+
+module _ (a b : List ℕ) (map : MapRead) (pl : PlacingRead) (rows : List (List ℕ)) (d : YardRead a b map pl rows) where
+  zone-is : (z : ℕ) → z < zoneCount (d .it .graph) → zoneAt (d .it .graph) z ≡ record { kind = getD (map .kind) z 0; vertices = take (getD (map .size) z 0) (drop (getD (map .first) z 0) (map .listed)) }
+  zone-is z h = d .held .zone-at z (omega (arith, d .held .count))
+
+  pub yard-given : Given (d .it .graph) (map .vertices) (pl .robots) (map .kind) (map .first) (map .size) (map .listed) (map .zone) (map .place) rows
+  yard-given = record {
+    accepted = d .accepted;
+    vertices = sym (d .held .size);
+    few = d .robots .few;
+    tables = record {
+      few = omega (arith, d .held .few, d .held .count);
+      fits = λ z h. omega (arith, d .held .inside z (omega (arith, d .held .count)), d .held .long-listed);
+      kinds = λ z h. ap (λ (y : Zone). y .kind) (zone-is z h);
+      vertices = λ z h. ap (λ (y : Zone). y .vertices) (zone-is z h);
+      zones = λ v h. getD-default (map .zone) v 0 255 (omega (arith, d .held .long-zone, d .held .size, d .held .small)) ∙ d .held .zone-of v;
+      places = λ v h. d .held .place-of v;
+    };
+    edges = d .shown;
+  }
+
+  pub yard-placement : Placement (map .vertices) (map .zones) (pl .robots) (map .kind) (map .first) (map .size) (map .listed) (map .zone) (map .place) rows (pl .starts) (pl .goals)
+  yard-placement = record {
+    map = d .it .graph;
+    placing = d .it .placing;
+    given = yard-given;
+    count = sym (d .held .count);
+    placed = d .placed;
+    on-starts = sym (d .robots .starts);
+    on-goals = sym (d .robots .goals);
+  }
+
+-- a plan's payload is at most 64 parts
+pub len-few : (f : List ℕ) (n : ℕ) → Whole 64 f n → n ≤ 32256
+len-few f n w = omega (arith, w .most, w .limited)
+
+-- ---- the stages
+
+module _ (a b c o₀ : List ℕ) where
+  -- map or placing is refused
+  pub planned-yard : (rows : List (List ℕ)) (y : Yard) → YardIs a b rows y → (y .refusal .number ≡ 0 → ⊥) → PlannedIs a b c o₀ (record { refusal = y .refusal; count = 0 }) o₀
+  unfolding meaning.planMoves
+  planned-yard rows y w h = record {
+    refused = λ z. refused-bind _ _ (y .refusal .number) (y .refusal .place) (w .refused h);
+    small = λ z. w .small h;
+    resolved = λ z. absurd (h z);
+    long = refl;
+  }
+
+  module _ (map : MapRead) (pl : PlacingRead) (rows : List (List ℕ)) (d : YardRead a b map pl rows) (hc : Bytes c) (o : Outcome (List ℕ)) (ec : o ≡ payloadOf 30 3 64 c)
+      (n q : ℕ) (e : movesFile n q c ≡ o) where
+    -- the plan's file is refused
+    pub planned-file : (n ≡ 0 → ⊥) → PlannedIs a b c o₀ (record { refusal = record { number = n; place = q }; count = 0 }) o₀
+    unfolding meaning.planMoves
+    planned-file h =
+        let w : payloadOf 30 3 64 c ≡ refuse n q = sym (e ∙ ec) ∙ refusal-some n q (take q (payload c)) h in
+        record {
+          refused = λ z. bind _ _ _ (d .instance) ∙ refused-bind _ _ n q w;
+          small = λ z. small-at 65536 n q (payloadOf 30 3 64 c) (small-payload 65536 30 3 64 c (omega arith) (omega arith)) w;
+          resolved = λ z. absurd (h z);
+          long = refl;
+        }
+
+    module _ (z : n ≡ 0) (r : Resolved) (p : List ℕ) (t : ResolvedTo (d .it .graph) (d .it .placing) (take q (payload c)) o₀ p r) (n₁ q₁ : ℕ)
+        (e₁ : (ms : List Move) → refusalOr n₁ q₁ ms ≡ faultOf (r .fault) ms) (none : n₁ ≡ 0 → r .fault ≡ plan.None) where
+      read : payloadOf 30 3 64 c ≡ ok (take q (payload c))
+      read = sym (e ∙ ec) ∙ refusal-none n q (take q (payload c)) z
+
+      plan-is : meaning.planMoves a b c ≡ refusalOr n₁ q₁ (t .moves)
+      unfolding meaning.planMoves
+      plan-is = bind _ _ _ (d .instance) ∙ bind _ _ _ read ∙ sym (t .answer) ∙ sym (e₁ (t .moves))
+
+      -- the plan is resolved, or refused at a step, a surplus or the goals
+      pub planned-all : PlannedIs a b c o₀ (record { refusal = record { number = n₁; place = q₁ }; count = r .count }) p
+      planned-all = record {
+        refused = λ h. plan-is ∙ refusal-some n₁ q₁ (t .moves) h;
+        small = λ h. small-at 65536 n₁ q₁ (resolvedMoves (d .it .graph) (d .it .placing) (take q (payload c)))
+            (small-resolved (d .it .graph) (d .it .placing) (take q (payload c)) (written-bytes 30 3 64 c (take q (payload c)) hc read) (omega (arith, d .held .few, d .held .count)))
+            (sym (t .answer) ∙ sym (e₁ (t .moves)) ∙ refusal-some n₁ q₁ (t .moves) h);
+        resolved = λ y. record { moves = t .moves; resolved = plan-is ∙ refusal-none n₁ q₁ (t .moves) y; counted = t .count (none y); laid = t .buffer (none y) };
+        long = t .long;
+      }
+
+-- ---- the services
+
+module _ (a b c o₀ o : List ℕ) (r : Planned) (d : PlannedIs a b c o₀ r o) where
+  -- judging and resolving refuse alike
+  pub judge-refused : (r .refusal .number ≡ 0 → ⊥) → _≡_ {A = meaning.Answer} (record { number = r .refusal .number; value = r .refusal .place; buffer = [] }) (meaning.judging a b c)
+  unfolding meaning.judging meaning.answerOf
+  judge-refused h = sym (ap (meaning.answerOf 0) (refused-bind (meaning.planMoves a b c) (λ ms. ok []) (r .refusal .number) (r .refusal .place) (d .refused h)))
+
+  pub judge-cleared : r .refusal .number ≡ 0 → _≡_ {A = meaning.Answer} (record { number = 0; value = 0; buffer = [] }) (meaning.judging a b c)
+  unfolding meaning.judging meaning.answerOf
+  judge-cleared h = sym (ap (meaning.answerOf 0) (bind (meaning.planMoves a b c) (d .resolved h .moves) (λ ms. ok []) (d .resolved h .resolved)))
+
+  pub resolve-refused : (r .refusal .number ≡ 0 → ⊥) → refusal (r .refusal .number) (r .refusal .place) o ≡ meaning.resolving a b c (length o₀)
+  unfolding meaning.resolving meaning.answerOf
+  resolve-refused h =
+      ap {B = meaning.Answer} (λ (k : ℕ). record { number = r .refusal .number; value = r .refusal .place; buffer = replicate k 0 }) (d .long)
+      ∙ sym (ap (meaning.answerOf (length o₀)) (refused-bind (meaning.planMoves a b c) _ (r .refusal .number) (r .refusal .place) (d .refused h)))
+
+  -- the count fits
+  pub count-few : r .refusal .number ≡ 0 → r .count < 68719476736
+  count-few h = omega (arith, plan-bound a b c (d .resolved h .moves) (d .resolved h .resolved), d .resolved h .counted)
+
+  moves-bytes : (ms : List Move) → length (moveBytes ms) ≡ length ms * 3
+  unfolding moveBytes
+  moves-bytes [] = refl
+  moves-bytes (m ∷ ms) = omega (arith, moves-bytes ms)
+
+  -- the list is counted and delivered
+  pub resolve-delivered : (h : r .refusal .number ≡ 0) (o₁ : List ℕ) (x : meaning.Answer) → o₁ ≡ laidAll o 0 (u16 (r .count)) → x ≡ deliveredOf 4 128 (2 + r .count * 3) o₁
+      → x ≡ meaning.resolving a b c (length o₀)
+  unfolding movesPayload meaning.resolving
+  resolve-delivered h o₁ x e₁ ex =
+      let w = d .resolved h in
+      let ms : List Move = w .moves in
+      let ln : 2 + r .count * 3 ≡ length (u16 (length ms) ++ moveBytes ms) = omega (arith, moves-bytes ms, w .counted) in
+      let ob : o₁ ≡ laidAll (laidAll o₀ (length (u16 (length ms))) (moveBytes ms)) 0 (u16 (length ms)) =
+      e₁ ∙ ap₂ (λ (y : List ℕ) (i : ℕ). laidAll y 0 (u16 i)) (w .laid) (w .counted) in
+      ex ∙ ap₂ (λ (i : ℕ) (y : List ℕ). deliveredOf 4 128 i y) ln ob ∙ delivered-counted 4 128 o₀ (u16 (length ms)) (moveBytes ms)
+      ∙ sym (ap (meaning.answerOf (length o₀)) (bind (meaning.planMoves a b c) ms _ (w .resolved)))
