@@ -148,8 +148,9 @@ pub fn draw_moves(
         let r = wire::payload_byte(file, 2 + at);
         let u = wire::payload_byte(file, 3 + at);
         let v = wire::payload_byte(file, 4 + at);
+        let next = motion::moved(t, Robot(r), Vertex(u), Vertex(v));
         d = draw_move(d, t, map, &listed, r, u, v, out);
-        t = motion::moved(t, Robot(r), Vertex(u), Vertex(v));
+        t = next;
         i += 1;
     }
     d

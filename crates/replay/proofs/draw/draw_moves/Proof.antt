@@ -1,4 +1,3 @@
-use borrow.Author.Needs.{needs}
 use mathlib.Core.Path.{_≡_, refl}
 use Prim.Native.Nat.{_+_, _-_, _*_, _≤_}
 use lib.ListN.{length}
@@ -8,6 +7,7 @@ use Rattle.layout.specs.Map.{MapHeld}
 use Rattle.motion.specs.States.{stateOf}
 use Rattle.replay.specs.Moves.{fileBytes, move-of}
 use Rattle.replay.specs.Drawn.{EndsOn, Drawing, drawing-start, drawing-next, all-drawn}
+use borrow.Author.Needs.{needs}
 use native.Mathlib.Omega.{arith}
 use Rattle.replay.proofs.draw.draw_moves.Statement.{statement}
 use Rattle.replay.proofs.draw.draw_moves.Tie as tie
@@ -49,14 +49,14 @@ add-payload-byte-3 c = search needs
 payload-byte-requires-3 : tie.Need-payload-byte-requires-3 Inv-loop μ-loop
 payload-byte-requires-3 c κs = search needs
 
+moved-requires : tie.Need-moved-requires Inv-loop μ-loop
+moved-requires c κs = search needs
+
 slice-aggregate-draw-move : tie.Need-slice-aggregate-draw-move Inv-loop μ-loop
 slice-aggregate-draw-move c = search needs
 
 draw-move-requires : tie.Need-draw-move-requires Inv-loop μ-loop
 draw-move-requires c κs = search needs
-
-moved-requires : tie.Need-moved-requires Inv-loop μ-loop
-moved-requires c κs = search needs
 
 add-i : tie.Need-add-i Inv-loop μ-loop
 add-i c = search needs
@@ -67,15 +67,15 @@ loop-less c = search needs
 loop-again : tie.Need-loop-again Inv-loop μ-loop
 loop-again c = (
   search needs,
-  omega (arith, c .before .before .before .draw-move .ensures .1 .0),
-  omega (arith, c .before .before .before .draw-move .ensures .1 .1),
+  omega (arith, c .before .before .draw-move .ensures .1 .0),
+  omega (arith, c .before .before .draw-move .ensures .1 .1),
   search needs,
   search needs,
   λ m h g el en.
       drawing-next m _ _ _ _ (c .before .before .before .before .before .before .before .before .before .before .loop .i) (stateOf (c .before .before .before .before .before .before .before .before .before .before .loop .t)) _ _ _ _ _ _ (c .before .before .before .before .before .before .before .before .before .before .loop .inv .5 m h g el en) (c .before .before .before .before .before .before .before .before .before .loop-test .taken)
       (move-of (fileBytes (c .before .before .before .before .before .before .before .before .before .before .before .before .before .args .file .now)) (c .before .before .before .before .before .before .before .before .before .before .loop .i) _ _ _ (c .before .before .before .before .before .before .before .before .payload-byte .ensures) (c .before .before .before .before .before .before .before .payload-byte2 .ensures) (c .before .before .before .before .before .before .payload-byte3 .ensures))
-      (c .moved .ensures)
-      (c .before .before .before .draw-move .ensures .0 m h el (rw (c .before .before .before .before .before .before .payload-byte3 .ensures) (en _ (c .before .before .before .before .before .before .before .before .before .loop-test .taken))) g),
+      (c .before .before .before .before .before .moved .ensures)
+      (c .before .before .draw-move .ensures .0 m h el (rw (c .before .before .before .before .before .before .payload-byte3 .ensures) (en _ (c .before .before .before .before .before .before .before .before .before .loop-test .taken))) g),
 )
 
 same-length : tie.Need-same-length Inv-loop μ-loop
@@ -98,9 +98,9 @@ draw-moves-spec =
     payload-byte-requires-2
     add-payload-byte-3
     payload-byte-requires-3
+    moved-requires
     slice-aggregate-draw-move
     draw-move-requires
-    moved-requires
     add-i
     loop-less
     loop-again
