@@ -52,27 +52,46 @@ fn agreed(trial: &Trial) -> Answer {
 /// The median time of a call of each, in nanoseconds.
 fn medians(trial: &Trial) -> (f64, f64) {
     let mut buffer = vec![0; trial.room];
-    let mut turn = |service: Writing, calls: usize| {
-        let start = Instant::now();
-        for _ in 0..calls {
-            let (map, placing, input) = black_box((&trial.map, &trial.placing, &trial.input));
-            black_box(service(map, placing, input, &mut buffer));
-        }
-        start.elapsed().as_nanos() as f64 / calls as f64
+    let mut turn = |service: Writing, calls: usize, frames: usize| {
+        let mut nanoseconds = 0;
+        lower(frames, &mut || {
+            let start = Instant::now();
+            for _ in 0..calls {
+                let (map, placing, input) = black_box((&trial.map, &trial.placing, &trial.input));
+                black_box(service(map, placing, input, &mut buffer));
+            }
+            nanoseconds = start.elapsed().as_nanos();
+        });
+        nanoseconds as f64 / calls as f64
     };
-    let first = turn(trial.proved, 3).max(turn(trial.rust, 3)).max(1.0);
+    let first = turn(trial.proved, 3, 0)
+        .max(turn(trial.rust, 3, 0))
+        .max(1.0);
     let calls = (TURN_NANOSECONDS / first).ceil() as usize;
     let (mut proved, mut rust) = (Vec::new(), Vec::new());
     for index in 0..TURNS {
         if index % 2 == 0 {
-            proved.push(turn(trial.proved, calls));
-            rust.push(turn(trial.rust, calls));
+            proved.push(turn(trial.proved, calls, index));
+            rust.push(turn(trial.rust, calls, index));
         } else {
-            rust.push(turn(trial.rust, calls));
-            proved.push(turn(trial.proved, calls));
+            rust.push(turn(trial.rust, calls, index));
+            proved.push(turn(trial.proved, calls, index));
         }
     }
     (median(proved), median(rust))
+}
+
+/// Runs something with the stack lower by some frames: where the stack lies
+/// changes how fast small copies on it are, so no one place is to be measured.
+#[inline(never)]
+fn lower(frames: usize, work: &mut dyn FnMut()) {
+    let frame = black_box([0u8; 16]);
+    if frames == 0 {
+        work();
+    } else {
+        lower(frames - 1, work);
+    }
+    black_box(frame);
 }
 
 fn median(mut times: Vec<f64>) -> f64 {
