@@ -17,6 +17,7 @@ const CASES_PER_SCENE: usize = 24;
 /// long and extreme ones.
 pub struct Generator {
     random: Random,
+    services: Vec<Service>,
     is_small: bool,
     scene: Scene,
     left: usize,
@@ -25,19 +26,25 @@ pub struct Generator {
 impl Generator {
     /// Cases of all sizes.
     pub fn new(seed: u64) -> Generator {
-        Generator::of(seed, false)
+        Generator::of(seed, &Service::ALL, false)
+    }
+
+    /// Cases of all sizes for some of the services.
+    pub fn for_services(seed: u64, services: &[Service]) -> Generator {
+        Generator::of(seed, services, false)
     }
 
     /// Cases whose files and buffers have few blocks.
     pub fn small(seed: u64) -> Generator {
-        Generator::of(seed, true)
+        Generator::of(seed, &Service::ALL, true)
     }
 
-    fn of(seed: u64, is_small: bool) -> Generator {
+    fn of(seed: u64, services: &[Service], is_small: bool) -> Generator {
         let mut random = Random::new(seed);
         let scene = Scene::small(&mut random);
         Generator {
             random,
+            services: services.to_vec(),
             is_small,
             scene,
             left: 0,
@@ -67,7 +74,7 @@ impl Generator {
         }
         self.left -= 1;
 
-        let service = *random.pick(&Service::ALL);
+        let service = *random.pick(&self.services);
         let mut yard = self.scene.yard.clone();
         let goals = if service.takes_plan() {
             &self.scene.plan_goals

@@ -16,7 +16,8 @@ pub struct Implementation {
     pub rounds: Writing,
 }
 
-const REFERENCE: Implementation = Implementation {
+/// The Rust version.
+pub const REFERENCE: Implementation = Implementation {
     name: "reference",
     judge: reference::judge,
     resolve: reference::resolve,
@@ -24,8 +25,8 @@ const REFERENCE: Implementation = Implementation {
     rounds: reference::rounds,
 };
 
-/// All implementations; the others are held against the first. A further one
-/// is plugged in here.
+/// The implementations that `cases` runs; the others are held against the
+/// first. The proved library is run by `compare`.
 pub fn implementations() -> Vec<Implementation> {
     vec![REFERENCE]
 }

@@ -63,28 +63,45 @@ pub struct Violation {
 /// Runs a case on all implementations and checks every law on it; gives the
 /// first implementation's answer.
 pub fn examine(case: &Case, implementations: &[Implementation]) -> Result<Outcome, Violation> {
-    let [first, others @ ..] = implementations else {
+    let [first, ..] = implementations else {
         return Err(violation(case, "no implementation".to_string()));
     };
     let mut expected = None;
     for related in related_cases(case, first) {
-        let outcome = Outcome::of(&related, first);
+        let outcome = compare(&related, implementations)?;
         keep_laws(&related, first, &outcome).map_err(|fault| violation(&related, fault))?;
-        for other in others {
-            let found = Outcome::of(&related, other);
-            if found != outcome {
-                let (name, known) = (other.name, first.name);
-                let fault = format!(
-                    "{known} gives {}\n{name} gives {}",
-                    outcome.text(),
-                    found.text()
-                );
-                return Err(violation(&related, fault));
-            }
-        }
         expected.get_or_insert(outcome);
     }
     expected.ok_or(violation(case, "nothing was run".to_string()))
+}
+
+/// Runs a case on all implementations and holds number, place and the whole
+/// buffer of each against the first; gives the first one's outcome.
+pub fn compare(case: &Case, implementations: &[Implementation]) -> Result<Outcome, Violation> {
+    let [first, others @ ..] = implementations else {
+        return Err(violation(case, "no implementation".to_string()));
+    };
+    let expected = Outcome::of(case, first);
+    for other in others {
+        let found = Outcome::of(case, other);
+        if found != expected {
+            let mut fault = format!(
+                "{} gives {} {}\n{} gives {} {}",
+                first.name,
+                expected.answer.number,
+                expected.answer.place,
+                other.name,
+                found.answer.number,
+                found.answer.place
+            );
+            let mut pairs = expected.buffer.iter().zip(&found.buffer).enumerate();
+            if let Some((index, (one, two))) = pairs.find(|(_, (one, two))| one != two) {
+                fault += &format!("\nat byte {index} they leave {one:02x} and {two:02x}");
+            }
+            return Err(violation(case, fault));
+        }
+    }
+    Ok(expected)
 }
 
 fn violation(case: &Case, fault: String) -> Violation {

@@ -11,5 +11,5 @@ mod scene;
 
 pub use case::{Case, Service};
 pub use generator::Generator;
-pub use implementation::{implementations, Implementation};
-pub use laws::{examine, Outcome, Violation};
+pub use implementation::{implementations, Implementation, REFERENCE};
+pub use laws::{compare, examine, Outcome, Violation};
