@@ -33,7 +33,6 @@ pub fn trials() -> Vec<Trial> {
         draw("draw 21,503 moves, four kinds of zone", &yard, &moves),
         rounds("rounds of 21,503 moves, four kinds of zone", &yard, &moves),
     ]);
-    #[cfg(feature = "resolving")]
     trials.extend(plans(&yard, &moves));
 
     let (yard, moves) = ferry();
@@ -41,7 +40,6 @@ pub fn trials() -> Vec<Trial> {
         draw("draw 8,063 moves, each a step", &yard, &moves),
         rounds("rounds of 8,063 moves, each a step", &yard, &moves),
     ]);
-    #[cfg(feature = "resolving")]
     trials.extend(plans(&yard, &moves));
 
     let mut refused = rounds("refuse block 0 of the map, buffer 65,536", &yard, &moves);
@@ -85,7 +83,6 @@ fn rounds(name: &'static str, yard: &Yard, moves: &[[u8; 3]]) -> Trial {
 }
 
 /// Judging and resolving the plan of a move list.
-#[cfg(feature = "resolving")]
 fn plans(yard: &Yard, moves: &[[u8; 3]]) -> [Trial; 2] {
     let plan = || {
         let drawn = draw("", yard, moves);

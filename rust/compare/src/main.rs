@@ -14,7 +14,7 @@ use std::time::Instant;
 
 use cases::{Case, Generator, Outcome, Service, REFERENCE};
 
-use proved::{LINKED, PROVED};
+use proved::PROVED;
 
 const USAGE: &str = "compare --seed S --count N [--services draw,rounds]
 compare replay FILE";
@@ -25,7 +25,7 @@ fn main() -> ExitCode {
     let arguments: Vec<String> = std::env::args().skip(1).collect();
     let words: Vec<&str> = arguments.iter().map(String::as_str).collect();
     let done = match words[..] {
-        ["--seed", seed, "--count", count] => run(seed, count, LINKED),
+        ["--seed", seed, "--count", count] => run(seed, count, &Service::ALL),
         ["--seed", seed, "--count", count, "--services", chosen] => {
             services(chosen).and_then(|chosen| run(seed, count, &chosen))
         }
@@ -46,19 +46,9 @@ fn services(words: &str) -> Result<Vec<Service>, String> {
     let service = |word: &str| {
         let mut known = Service::ALL.into_iter();
         let service = known.find(|service| service.word() == word);
-        let service = service.ok_or(format!("no service {word}"))?;
-        is_linked(service).map(|()| service)
+        service.ok_or(format!("no service {word}"))
     };
     words.split(',').map(service).collect()
-}
-
-fn is_linked(service: Service) -> Result<(), String> {
-    if LINKED.contains(&service) {
-        Ok(())
-    } else {
-        let word = service.word();
-        Err(format!("{word} is linked only with --features resolving"))
-    }
 }
 
 /// Compares one case; a difference comes with its case.
@@ -114,7 +104,6 @@ fn replay(path: &str) -> Result<(), String> {
     let text = std::fs::read_to_string(path).map_err(|error| format!("{path}: {error}"))?;
     for line in text.lines().filter(|line| !line.trim().is_empty()) {
         let case: Case = line.parse()?;
-        is_linked(case.service)?;
         let outcome = check(&case).map_err(|(fault, case)| format!("{fault}\n{case}"))?;
         println!(
             "{} {} {}",

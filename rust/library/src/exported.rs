@@ -28,7 +28,6 @@ pub type Writing = unsafe extern "C" fn(
 ) -> Returned;
 
 extern "C" {
-    #[cfg(feature = "resolving")]
     pub fn galzpuna_judge(
         map: *const u8,
         map_length: usize,
@@ -38,7 +37,6 @@ extern "C" {
         plan_length: usize,
     ) -> Returned;
 
-    #[cfg(feature = "resolving")]
     pub fn galzpuna_resolve(
         map: *const u8,
         map_length: usize,

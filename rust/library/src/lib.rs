@@ -9,7 +9,6 @@ use reference::Answer;
 use exported::Writing;
 
 /// Says whether a plan is cleared. Nothing is written.
-#[cfg(feature = "resolving")]
 pub fn judge(map: &[u8], placing: &[u8], plan: &[u8]) -> Answer {
     // SAFETY: the pointers and lengths are those of slices that are lent for
     // the call, and the library only reads them.
@@ -27,7 +26,6 @@ pub fn judge(map: &[u8], placing: &[u8], plan: &[u8]) -> Answer {
 }
 
 /// Writes the move list that carries a plan out.
-#[cfg(feature = "resolving")]
 pub fn resolve(map: &[u8], placing: &[u8], plan: &[u8], buffer: &mut [u8]) -> Answer {
     // SAFETY: the service is one of the library's.
     unsafe { write(exported::galzpuna_resolve, map, placing, plan, buffer) }
