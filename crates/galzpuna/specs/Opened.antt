@@ -216,20 +216,14 @@ list-passed m pl p ms h e =
       ends = λ l k. let z : 0 + l ≡ l = omega arith in rw z at (moves-end m _ p (c .0) 0 _ (r .0) (r .1) l (omega arith));
     }
 
--- ---- the stages of opening
+-- ---- map and placing, stage by stage
 
-module _ (a b c : List ℕ) (ha : Bytes a) (hc : Bytes c) (map : MapRead) (rows : List (List ℕ)) (r : MapIs (mapIn a) map rows) (n q : ℕ)
+module _ (a b : List ℕ) (ha : Bytes a) (map : MapRead) (rows : List (List ℕ)) (r : MapIs (mapIn a) map rows) (n q : ℕ)
     (e : (m : Map) → refusalOr n q m ≡ mapFault.answered (map .fault) m) where
   map-is : mapIn a ≡ refusalOr n q (mapOr (mapIn a))
   map-is = r .answer ∙ sym (e (mapOr (mapIn a)))
 
   -- the map is refused
-  pub opened-map : (n ≡ 0 → ⊥) → (pl : PlacingRead) (k : ℕ) → OpenedIs a b c (record { refusal = record { number = n; place = q }; map = map; placing = pl; count = k })
-  opened-map h pl k =
-      let w : mapIn a ≡ refuse n q = map-is ∙ refusal-some n q (mapOr (mapIn a)) h in
-      record { refused = λ z K. chain-instance a b c K n q (map-refused a b n q w); small = map-place a n q ha w; opened = λ z. absurd (h z) }
-
-  -- so is the yard
   pub yard-map : (n ≡ 0 → ⊥) → (pl : PlacingRead) → YardIs a b rows (record { refusal = record { number = n; place = q }; map = map; placing = pl })
   yard-map h pl =
       let w : mapIn a ≡ refuse n q = map-is ∙ refusal-some n q (mapOr (mapIn a)) h in
@@ -257,12 +251,6 @@ module _ (a b c : List ℕ) (ha : Bytes a) (hc : Bytes c) (map : MapRead) (rows 
       placing-is = there .answer ∙ sym (e₁ (placingOr (placingIn m b)))
 
       -- the placing is refused
-      pub opened-placing : (n₁ ≡ 0 → ⊥) → (k : ℕ) → OpenedIs a b c (record { refusal = record { number = n₁; place = q₁ }; map = map; placing = pl; count = k })
-      opened-placing h k =
-          let w : placingIn m b ≡ refuse n₁ q₁ = placing-is ∙ refusal-some n₁ q₁ (placingOr (placingIn m b)) h in
-          record { refused = λ y K. chain-instance a b c K n₁ q₁ (placing-refused a b m n₁ q₁ map-read w); small = placing-place m b n₁ q₁ w; opened = λ y. absurd (h y) }
-
-      -- so is the yard
       pub yard-placing : (n₁ ≡ 0 → ⊥) → YardIs a b rows (record { refusal = record { number = n₁; place = q₁ }; map = map; placing = pl })
       yard-placing h =
           let w : placingIn m b ≡ refuse n₁ q₁ = placing-is ∙ refusal-some n₁ q₁ (placingOr (placingIn m b)) h in
@@ -288,106 +276,78 @@ module _ (a b c : List ℕ) (ha : Bytes a) (hc : Bytes c) (map : MapRead) (rows 
             };
           }
 
-      -- the robots are few
-      pub robots-few : pl .robots ≤ 64
-      robots-few = there .tables .few
+-- ---- the move list, stage by stage
 
-      module _ (z₁ : n₁ ≡ 0) where
-        it : Instance
-        it = record { graph = m; placing = placingOr (placingIn m b) }
+-- map or placing is refused
+pub opened-yard : (a b c : List ℕ) (rows : List (List ℕ)) (y : Yard) → YardIs a b rows y → (y .refusal .number ≡ 0 → ⊥)
+    → OpenedIs a b c (record { refusal = y .refusal; map = y .map; placing = y .placing; count = 0 })
+opened-yard a b c rows y w h = record {
+  refused = λ z K. chain-instance a b c K (y .refusal .number) (y .refusal .place) (w .refused h);
+  small = w .small h;
+  opened = λ z. absurd (h z);
+}
 
-        instance : instanceOf a b ≡ ok it
-        unfolding it
-        instance = both-read a b m (placingOr (placingIn m b)) map-read (placing-is ∙ refusal-none n₁ q₁ (placingOr (placingIn m b)) z₁)
+module _ (a b c : List ℕ) (hc : Bytes c) (map : MapRead) (pl : PlacingRead) (rows : List (List ℕ)) (d : YardRead a b map pl rows)
+    (o : Outcome (List ℕ)) (ec : o ≡ payloadOf 40 4 128 c) (n₂ q₂ : ℕ) (e₂ : movesFile n₂ q₂ c ≡ o) where
+  -- the move list's file is refused
+  pub opened-file : (n₂ ≡ 0 → ⊥) → OpenedIs a b c (record { refusal = record { number = n₂; place = q₂ }; map = map; placing = pl; count = 0 })
+  opened-file h =
+      let w : payloadOf 40 4 128 c ≡ refuse n₂ q₂ = sym (e₂ ∙ ec) ∙ refusal-some n₂ q₂ (take q₂ (payload c)) h in
+      record {
+        refused = λ y K. chain-file a b c K n₂ q₂ (d .it) (d .instance) w;
+        small = small-at 65536 n₂ q₂ (payloadOf 40 4 128 c) (small-payload 65536 40 4 128 c (omega arith) (omega arith)) w;
+        opened = λ y. absurd (h y);
+      }
 
-        robots : PlacingHeld pl (it .placing)
-        unfolding it
-        robots = there .tables
+  module _ (z₂ : n₂ ≡ 0) (most : q₂ ≤ length c / 512 * 504) where
+    read : payloadOf 40 4 128 c ≡ ok (take q₂ (payload c))
+    read = sym (e₂ ∙ ec) ∙ refusal-none n₂ q₂ (take q₂ (payload c)) z₂
 
-        -- what the check of the moves is asked about
-        pub the-map : Map
-        the-map = m
+    bytes : Bytes (take q₂ (payload c))
+    bytes = written-bytes 40 4 128 c (take q₂ (payload c)) hc read
 
-        pub the-placing : Placing
-        the-placing = it .placing
+    long : length (take q₂ (payload c)) ≡ q₂
+    long = held-length c q₂ most
 
-        pub map-size : the-map .size ≡ map .vertices
-        unfolding the-map m
-        map-size = sym (r .tables .size)
+    file-moves : (k : ℕ) → ((l : ℕ) → l < k → 2 + l * 3 + 3 ≤ q₂) → movesBy (bytesOf (take q₂ (payload c))) 0 k ≡ movesBy (fileBytes c) 0 k
+    unfolding movesBy
+    file-moves zero h = refl
+    file-moves (suc k) h = moves-same (bytesOf (take q₂ (payload c))) (fileBytes c) 0 (suc k) (λ off l. held-byte c q₂ most off (omega (arith, h k (omega arith))))
 
-        pub map-shown : Shows rows (the-map .edges)
-        unfolding the-map m
-        map-shown = r .shown
+    module _ (o₃ : Outcome (List Move)) (el : o₃ ≡ checkedMoves (d .it .graph) (d .it .placing) (take q₂ (payload c))) (n₃ q₃ : ℕ) (e₃ : movesList n₃ q₃ (take q₂ (payload c)) ≡ o₃) where
+      -- the moves are refused
+      pub opened-list : (n₃ ≡ 0 → ⊥) → OpenedIs a b c (record { refusal = record { number = n₃; place = q₃ }; map = map; placing = pl; count = 0 })
+      opened-list h =
+          let w : checkedMoves (d .it .graph) (d .it .placing) (take q₂ (payload c)) ≡ refuse n₃ q₃ = sym (e₃ ∙ el) ∙ refusal-some n₃ q₃ (movesBy (bytesOf (take q₂ (payload c))) 0 q₃) h in
+          record {
+            refused = λ y K. chain-list a b c K n₃ q₃ (d .it) (take q₂ (payload c)) (d .instance) read w;
+            small = small-at 65536 n₃ q₃ (checkedMoves (d .it .graph) (d .it .placing) (take q₂ (payload c)))
+                (small-checked (d .it .graph) (d .it .placing) (take q₂ (payload c)) bytes
+                (omega (arith, ap length (d .robots .goals), length-take-le (pl .robots) (pl .goals) (omega (arith, d .robots .few, d .robots .long-goals)), d .robots .few))) w;
+            opened = λ y. absurd (h y);
+          }
 
-        pub the-starts : the-placing .starts ≡ take (pl .robots) (pl .starts)
-        unfolding the-placing
-        the-starts = sym (robots .starts)
-
-        pub the-goals : the-placing .goals ≡ take (pl .robots) (pl .goals)
-        unfolding the-placing
-        the-goals = sym (robots .goals)
-
-        module _ (o : Outcome (List ℕ)) (ec : o ≡ payloadOf 40 4 128 c) (n₂ q₂ : ℕ) (e₂ : movesFile n₂ q₂ c ≡ o) where
-          -- the move list's file is refused
-          pub opened-file : (n₂ ≡ 0 → ⊥) → (k : ℕ) → OpenedIs a b c (record { refusal = record { number = n₂; place = q₂ }; map = map; placing = pl; count = k })
-          opened-file h k =
-              let w : payloadOf 40 4 128 c ≡ refuse n₂ q₂ = sym (e₂ ∙ ec) ∙ refusal-some n₂ q₂ (take q₂ (payload c)) h in
-              record {
-                refused = λ y K. chain-file a b c K n₂ q₂ it instance w;
-                small = small-at 65536 n₂ q₂ (payloadOf 40 4 128 c) (small-payload 65536 40 4 128 c (omega arith) (omega arith)) w;
-                opened = λ y. absurd (h y);
-              }
-
-          module _ (z₂ : n₂ ≡ 0) (most : q₂ ≤ length c / 512 * 504) where
-            read : payloadOf 40 4 128 c ≡ ok (take q₂ (payload c))
-            read = sym (e₂ ∙ ec) ∙ refusal-none n₂ q₂ (take q₂ (payload c)) z₂
-
-            bytes : Bytes (take q₂ (payload c))
-            bytes = written-bytes 40 4 128 c (take q₂ (payload c)) hc read
-
-            long : length (take q₂ (payload c)) ≡ q₂
-            long = held-length c q₂ most
-
-            file-moves : (k : ℕ) → ((l : ℕ) → l < k → 2 + l * 3 + 3 ≤ q₂) → movesBy (bytesOf (take q₂ (payload c))) 0 k ≡ movesBy (fileBytes c) 0 k
-            unfolding movesBy
-            file-moves zero h = refl
-            file-moves (suc k) h = moves-same (bytesOf (take q₂ (payload c))) (fileBytes c) 0 (suc k) (λ off l. held-byte c q₂ most off (omega (arith, h k (omega arith))))
-
-            module _ (o₃ : Outcome (List Move)) (el : o₃ ≡ checkedMoves the-map the-placing (take q₂ (payload c))) (n₃ q₃ : ℕ) (e₃ : movesList n₃ q₃ (take q₂ (payload c)) ≡ o₃) where
-              -- the moves are refused
-              pub opened-list : (n₃ ≡ 0 → ⊥) → (k : ℕ) → OpenedIs a b c (record { refusal = record { number = n₃; place = q₃ }; map = map; placing = pl; count = k })
-              unfolding the-map the-placing it
-              opened-list h k =
-                  let w : checkedMoves (it .graph) (it .placing) (take q₂ (payload c)) ≡ refuse n₃ q₃ = sym (e₃ ∙ el) ∙ refusal-some n₃ q₃ (movesBy (bytesOf (take q₂ (payload c))) 0 q₃) h in
-                  record {
-                    refused = λ y K. chain-list a b c K n₃ q₃ it (take q₂ (payload c)) instance read w;
-                    small = small-at 65536 n₃ q₃ (checkedMoves (it .graph) (it .placing) (take q₂ (payload c)))
-                        (small-checked (it .graph) (it .placing) (take q₂ (payload c)) bytes (omega (arith, ap length (robots .goals), length-take-le (pl .robots) (pl .goals) (omega (arith, robots .few, robots .long-goals)), robots .few))) w;
-                    opened = λ y. absurd (h y);
-                  }
-
-              -- all is read
-              pub opened-all : n₃ ≡ 0 → OpenedIs a b c (record { refusal = record { number = n₃; place = q₃ }; map = map; placing = pl; count = q₃ })
-              unfolding the-map the-placing it m
-              opened-all z₃ =
-                  let w : checkedMoves (it .graph) (it .placing) (take q₂ (payload c)) ≡ ok (movesBy (bytesOf (take q₂ (payload c))) 0 q₃) =
-                  sym (e₃ ∙ el) ∙ refusal-none n₃ q₃ (movesBy (bytesOf (take q₂ (payload c))) 0 q₃) z₃ in
-                  let d = list-passed (it .graph) (it .placing) (take q₂ (payload c)) (movesBy (bytesOf (take q₂ (payload c))) 0 q₃) bytes w in
-                  let ml : length (movesBy (bytesOf (take q₂ (payload c))) 0 q₃) ≡ q₃ = moves-length (bytesOf (take q₂ (payload c))) 0 q₃ in
-                  let fm = file-moves q₃ (λ l h. omega (arith, d .ends l (omega arith) .0, long)) in
-                  record {
-                    refused = λ y K. absurd (y z₃);
-                    small = omega (arith, d .few);
-                    opened = λ y. record {
-                      it = it;
-                      instance = instance;
-                      p = take q₂ (payload c);
-                      read = read;
-                      checked = w ∙ ap ok fm;
-                      few = omega (arith, d .few);
-                      held = r .tables;
-                      accepted = acc;
-                      robots = robots;
-                      ends = λ i h. let x = d .ends i (omega arith) in rw (← held-byte c q₂ most (4 + i * 3) (omega (arith, x .0, long))) (x .1);
-                    };
-                  }
+      -- all is read
+      pub opened-all : n₃ ≡ 0 → OpenedIs a b c (record { refusal = record { number = n₃; place = q₃ }; map = map; placing = pl; count = q₃ })
+      opened-all z₃ =
+          let w : checkedMoves (d .it .graph) (d .it .placing) (take q₂ (payload c)) ≡ ok (movesBy (bytesOf (take q₂ (payload c))) 0 q₃) =
+          sym (e₃ ∙ el) ∙ refusal-none n₃ q₃ (movesBy (bytesOf (take q₂ (payload c))) 0 q₃) z₃ in
+          let x = list-passed (d .it .graph) (d .it .placing) (take q₂ (payload c)) (movesBy (bytesOf (take q₂ (payload c))) 0 q₃) bytes w in
+          let ml : length (movesBy (bytesOf (take q₂ (payload c))) 0 q₃) ≡ q₃ = moves-length (bytesOf (take q₂ (payload c))) 0 q₃ in
+          let fm = file-moves q₃ (λ l h. omega (arith, x .ends l (omega arith) .0, long)) in
+          record {
+            refused = λ y K. absurd (y z₃);
+            small = omega (arith, x .few);
+            opened = λ y. record {
+              it = d .it;
+              instance = d .instance;
+              p = take q₂ (payload c);
+              read = read;
+              checked = w ∙ ap ok fm;
+              few = omega (arith, x .few);
+              held = d .held;
+              accepted = d .accepted;
+              robots = d .robots;
+              ends = λ i h. let z = x .ends i (omega arith) in rw (← held-byte c q₂ most (4 + i * 3) (omega (arith, z .0, long))) (z .1);
+            };
+          }

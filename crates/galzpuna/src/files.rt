@@ -41,46 +41,6 @@ fn refused(r: Refusal, m: MapRead, p: PlacingRead) -> Opened
     }
 }
 
-// Reads the three files.
-pub fn open_list(map: &[u8], placed: &[u8], moves: &[u8]) -> Opened
-    ensures { λ r. ⌜ OpenedIs (now (map .entry)) (now (placed .entry)) (now (moves .entry)) r ⌝ }
-{
-    let mut rows = [[0u64; 2]; 128];
-    let m = layout::map::read_map(map, &mut rows);
-    let unmapped = m.fault;
-    let n = m.vertices as usize;
-    let a = refusals::of_map(unmapped);
-    if a.number != 0 {
-        return refused(a, m, no_placing());
-    }
-    let p = placing::read_placing(placed, n);
-    let unplaced = p.fault;
-    let b = refusals::of_placing(unplaced);
-    if b.number != 0 {
-        return refused(b, m, p);
-    }
-    let checked = wire::check_file(moves, 4, 128);
-    let c = refusals::of_file(checked);
-    if c.number != 0 {
-        return refused(c, m, p);
-    }
-    let len = c.place;
-    let starts = p.starts;
-    let goals = p.goals;
-    let k = p.robots as usize;
-    let list = replay::check_moves(moves, len, &rows, n, starts, goals, k);
-    let d = refusals::of_list(list);
-    if d.number != 0 {
-        return refused(d, m, p);
-    }
-    Opened {
-        refusal: d,
-        map: m,
-        placing: p,
-        count: d.place,
-    }
-}
-
 // A map and a placing, or a refusal.
 fn yard(r: Refusal, m: MapRead, p: PlacingRead) -> Yard
     ensures { λ y. ⌜ y ≡ record { refusal = r; map = m; placing = p } ⌝ }
@@ -110,6 +70,40 @@ pub fn read_yard(map: &[u8], placed: &[u8], rows: &mut [[u64; 2]; 128]) -> Yard
         return yard(b, m, p);
     }
     yard(b, m, p)
+}
+
+// Reads map, placing and move list, and checks the moves.
+pub fn open_list(map: &[u8], placed: &[u8], moves: &[u8]) -> Opened
+    ensures { λ r. ⌜ OpenedIs (now (map .entry)) (now (placed .entry)) (now (moves .entry)) r ⌝ }
+{
+    let mut rows = [[0u64; 2]; 128];
+    let y = read_yard(map, placed, &mut rows);
+    let a = y.refusal;
+    let m = y.map;
+    let p = y.placing;
+    if a.number != 0 {
+        return refused(a, m, p);
+    }
+    let checked = wire::check_file(moves, 4, 128);
+    let c = refusals::of_file(checked);
+    if c.number != 0 {
+        return refused(c, m, p);
+    }
+    let n = m.vertices as usize;
+    let starts = p.starts;
+    let goals = p.goals;
+    let k = p.robots as usize;
+    let list = replay::check_moves(moves, c.place, &rows, n, starts, goals, k);
+    let d = refusals::of_list(list);
+    if d.number != 0 {
+        return refused(d, m, p);
+    }
+    Opened {
+        refusal: d,
+        map: m,
+        placing: p,
+        count: d.place,
+    }
 }
 
 // Resolves the plan in a checked file on a map and a placing that were read.
