@@ -42,6 +42,21 @@ pub fn trials() -> Vec<Trial> {
     ]);
     trials.extend(plans(&yard, &moves));
 
+    trials.extend([
+        ending("resolve: a hall of 64 to its goals", HALL, 32, |start| {
+            start + 32
+        }),
+        ending(
+            "resolve: a clique of 64 to its goals",
+            CLIQUE,
+            63,
+            |start| (start + 1) % 63,
+        ),
+        ending("resolve: a ring of 64 to its goals", RING, 32, |start| {
+            start + 32
+        }),
+    ]);
+
     let mut refused = rounds("refuse block 0 of the map, buffer 65,536", &yard, &moves);
     refused.map[511] ^= 1;
     trials.push(refused);
@@ -108,6 +123,19 @@ fn plans(yard: &Yard, moves: &[[u8; 3]]) -> [Trial; 2] {
             ..plan()
         },
     ]
+}
+
+/// Resolving a plan of no steps: a zone of 64 points is brought to its goals.
+fn ending(name: &'static str, kind: u8, carts: u8, goal: fn(u8) -> u8) -> Trial {
+    let points: Vec<u8> = (0..64).collect();
+    let carts: Vec<(u8, u8)> = (0..carts).map(|start| (start, goal(start))).collect();
+    let yard = Yard::new(&[(kind, &points)]).with(&carts);
+    Trial {
+        proved: library::resolve,
+        rust: reference::resolve,
+        input: writing::plan(&[]),
+        ..draw(name, &yard, &[])
+    }
 }
 
 /// Two halls, a ring and a clique with tracks between them, 60 carts.
