@@ -10,7 +10,7 @@ use Rattle.spec.specs.Outcome.{ok, indexOf}
 use Rattle.spec.specs.Layout.{Map, Zone, Placing, mapOf, zoneOf, zoneAt}
 use Rattle.spec.specs.Arrangement.{Move}
 use Rattle.spec.specs.ZoneKind.{leave, enter, end}
-use Rattle.spec.specs.State.{State, robotOn, cellOf, arrangementOf, acrossMove, across, standing}
+use Rattle.spec.specs.State.{State, arrangementOf, acrossMove, across, standing}
 use Rattle.spec.specs.Services.{instanceOf, planMoves}
 use Rattle.spec.specs.Run.{Ran, stepAt, stepsFrom, endingsFrom, resolvedMoves}
 use Rattle.theory.specs.Basics.Outcomes.{ok-injective, passed, bound, seq-ok}
@@ -19,17 +19,13 @@ use Rattle.theory.specs.Basics.Searches.{index-le}
 use Rattle.theory.specs.Codec.{payload-most}
 use Rattle.theory.specs.Zones.Lengths.{mostMoves, most-mono, leave-length, enter-length, end-length}
 use Rattle.theory.specs.Maps.Layout.{map-accepted}
+use Rattle.theory.specs.Maps.Cells.{arrangement-length}
 use Rattle.theory.specs.Maps.ZoneSize.{zone-size, map-zones}
 use Rattle.theory.specs.Plans.Taken.{taken-at}
 
 -- the most moves of a step between zones of at most n vertices: those of leaving, those of entering, and the crossing
 unfoldable pub stepMost : ℕ → ℕ
 stepMost n = 2 * mostMoves n + 1
-
--- an arrangement has a place for each vertex
-arranged-length : (s : State) (vs : List ℕ) → length (arrangementOf s vs) ≡ length vs
-unfolding arrangementOf
-arranged-length s vs = length-map vs (λ v. cellOf (robotOn s v))
 
 -- moves between places and between vertices are as many
 across-length : (vs : List ℕ) (ms : List Move) → length (across vs ms) ≡ length ms
@@ -41,19 +37,19 @@ module _ (n : ℕ) (y : Zone) (h : length (y .vertices) ≤ n) (s : State) where
   few : (ms : List Move) → length ms ≤ mostMoves (length (arrangementOf s (y .vertices))) → length (across (y .vertices) ms) ≤ mostMoves n
   few ms k =
       let a = arrangementOf s (y .vertices) in
-      omega (arith, across-length (y .vertices) ms, most-mono (length a) n (omega (arith, arranged-length s (y .vertices))))
+      omega (arith, across-length (y .vertices) ms, most-mono (length a) n (omega (arith, arrangement-length s y)))
 
   -- leaving such a zone
   pub leave-few : (r v : ℕ) → length (across (y .vertices) (leave (y .kind) (arrangementOf s (y .vertices)) r (indexOf v (y .vertices)))) ≤ mostMoves n
-  leave-few r v = few _ (leave-length (y .kind) (arrangementOf s (y .vertices)) r (indexOf v (y .vertices)) (omega (arith, arranged-length s (y .vertices), index-le v (y .vertices))))
+  leave-few r v = few _ (leave-length (y .kind) (arrangementOf s (y .vertices)) r (indexOf v (y .vertices)) (omega (arith, arrangement-length s y, index-le v (y .vertices))))
 
   -- entering such a zone
   pub enter-few : (v behind : ℕ) (list : List ℕ) → length (across (y .vertices) (enter (y .kind) (arrangementOf s (y .vertices)) (indexOf v (y .vertices)) behind list)) ≤ mostMoves n
-  enter-few v behind list = few _ (enter-length (y .kind) (arrangementOf s (y .vertices)) (indexOf v (y .vertices)) behind list (omega (arith, arranged-length s (y .vertices), index-le v (y .vertices))))
+  enter-few v behind list = few _ (enter-length (y .kind) (arrangementOf s (y .vertices)) (indexOf v (y .vertices)) behind list (omega (arith, arrangement-length s y, index-le v (y .vertices))))
 
   -- ending in such a zone
   pub end-few : (g : State) → length (across (y .vertices) (end (y .kind) (arrangementOf s (y .vertices)) (arrangementOf g (y .vertices)))) ≤ mostMoves n
-  end-few g = few _ (end-length (y .kind) (arrangementOf s (y .vertices)) (arrangementOf g (y .vertices)) (omega (arith, arranged-length s (y .vertices), arranged-length g (y .vertices))))
+  end-few g = few _ (end-length (y .kind) (arrangementOf s (y .vertices)) (arrangementOf g (y .vertices)) (omega (arith, arrangement-length s y, arrangement-length g y)))
 
 module _ (m : Map) (n : ℕ) (small : (z : ℕ) → length (zoneAt m z .vertices) ≤ n) where
   -- a step has at most that many moves, and takes four bytes or more

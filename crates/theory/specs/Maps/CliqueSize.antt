@@ -10,7 +10,7 @@ use native.Mathlib.Omega.{arith}
 use lib.ListN.{length, getD, length-append}
 use lib.Dec.{T, eqb, ltb, leb, eqb→eq, leb→le}
 use Rattle.spec.specs.Outcome.{ok, _>>_, check, _&&_}
-use Rattle.spec.specs.Layout.{Map, Zone, Edge, hasEdge, joined, linked, shaped, closed, ofKind, readEdges, edgesOf, mapOf, zoneAt}
+use Rattle.spec.specs.Layout.{Map, Zone, Edge, hasEdge, joined, linked, shaped, readEdges, edgesOf, mapOf, zoneAt}
 use Rattle.theory.specs.Basics.Tests.{of-true, true-of, and-left, and-right}
 use Rattle.theory.specs.Basics.Outcomes.{ok-injective, passed, bound, seq-ok}
 use Rattle.theory.specs.Zones.Clique.Searches.{near-other}
@@ -138,15 +138,6 @@ clique-edges m z e d t = pairs-joined (z .vertices) (m .edges) d (clique-joins m
 -- where there are at most 2,048 edges a clique has at most 64 vertices
 pub clique-small : (m : Map) (z : Zone) → z .kind ≡ 3 → Different (z .vertices) → length (m .edges) ≤ 2048 → T (shaped m z) → length (z .vertices) ≤ 64
 clique-small m z e d h t = few-joined (z .vertices) (m .edges) h d (clique-joins m z e t)
-
--- a zone of its kind has the shape of its kind
-pub kind-shaped : (m : Map) (z : Zone) → T (ofKind m z) → T (shaped m z)
-unfolding ofKind
-kind-shaped m z t = go (eqb (z .kind) 1) t
-  where
-    go : (c : Bool) → T (elim c [ true ↦ shaped m z && closed m z | false ↦ shaped m z ]) → T (shaped m z)
-    go true t = and-left _ _ t
-    go false t = t
 
 -- ---- an accepted map
 

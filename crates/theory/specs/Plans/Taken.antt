@@ -10,7 +10,7 @@ use native.Mathlib.Omega.{arith}
 use lib.ListN.{length, getD, take, drop, length-drop, take-append-drop, length-append}
 use lib.Seq.{drop-cons, drop-drop, length-take-le, drop-at, take-at, getD-drop}
 use lib.Dec.{T, eqb, ltb, leb, leb→le, ltb→lt, eqb→eq, not-T, T-not, le→leb, lt→ltb}
-use Rattle.spec.specs.Outcome.{Outcome, ok, check, _&&_, indexOf, _>>_, _>>=_}
+use Rattle.spec.specs.Outcome.{Outcome, ok, check, _&&_, _>>_, _>>=_}
 use Rattle.spec.specs.Layout.{Map, joined, zoneOf, zoneAt}
 use Rattle.spec.specs.Arrangement.{Move, mv, full}
 use Rattle.spec.specs.ZoneKind.{canLeave, leave, canEnter, enter}

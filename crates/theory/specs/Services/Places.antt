@@ -1,16 +1,15 @@
 -- Places: every refusal's place fits two bytes.
-use mathlib.Core.Path.{_≡_, refl, sym, ap, _∙_}
+use mathlib.Core.Path.{_≡_, refl, sym}
 use mathlib.Core.Bool.{Bool, true, false}
 use mathlib.Core.List.{List, [], _∷_, _++_}
 use Prim.Native.Nat.{ℕ, zero, suc, _+_, _*_, _/_, _%_, _≤_, _<_}
 use native.Mathlib.Omega.{arith}
-use lib.ListN.{length, getD, drop, take, length-append}
+use lib.ListN.{length, getD, drop, length-append}
 use lib.Dec.{T, eqb, ltb, leb, leb→le}
-use Rattle.spec.specs.Outcome.{Outcome, ok, refuse, _>>=_, _>>_, check, _&&_, member, below}
+use Rattle.spec.specs.Outcome.{Outcome, ok, refuse, _>>=_, _>>_, check}
 use Rattle.spec.specs.Wire.{word, payloadFrom, payloadOf}
-use Rattle.spec.specs.Layout.{Map, Zone, Edge, Head, Read, Counts, byteAt, wordAt, readVertices, readHead, readZones, readEdges, kindsFrom, listed, countsOf, zonesOf, edgesOf, mapOf, Placing, readRobots, placingOf}
-use Rattle.spec.specs.Arrangement.{Move}
-use Rattle.spec.specs.State.{State, moved}
+use Rattle.spec.specs.Layout.{Map, Zone, Edge, Head, Read, Counts, byteAt, wordAt, readVertices, readHead, readZones, readEdges, kindsFrom, countsOf, zonesOf, edgesOf, mapOf, Placing, readRobots, placingOf}
+use Rattle.spec.specs.State.{State}
 use Rattle.spec.specs.Run.{countOf, movesFrom, onGoals, checkedMoves, stepAt, stepsFrom, goalsFrom, resolvedMoves}
 use Rattle.spec.specs.Terms.{Bytes}
 use Rattle.theory.specs.Basics.Tests.{and-left, and-right}
@@ -22,11 +21,6 @@ Small b (ok a) = Unit {0}
 Small b (refuse n p) = p < b
 
 -- ---- chains of checks
-
-small-check : (b : ℕ) (t : Bool) (n p : ℕ) → p < b → Small b (check t n p)
-unfolding check
-small-check b true n p h = tt
-small-check b false n p h = h
 
 module _ {A B : Type 0} (b : ℕ) where
   -- a chain refuses as its first step or as the rest
@@ -49,6 +43,7 @@ small-test b false n p g h k = h
 
 -- ---- bytes and files
 
+-- a byte past the end is refused at its offset
 small-byte : (b n : ℕ) (p : List ℕ) (o : ℕ) → o < b → Small b (byteAt n p o)
 unfolding byteAt
 small-byte b n p o h = go (ltb o (length p))
@@ -57,6 +52,7 @@ small-byte b n p o h = go (ltb o (length p))
     go true = tt
     go false = h
 
+-- a byte that is read is the one at its offset
 byte-is : (n : ℕ) (p : List ℕ) (o x : ℕ) → byteAt n p o ≡ ok x → x ≡ getD p o 0
 unfolding byteAt
 byte-is n p o x e = go (ltb o (length p)) e
@@ -65,6 +61,7 @@ byte-is n p o x e = go (ltb o (length p)) e
     go true e = sym (ok-injective e)
     go false e = absurd (never e)
 
+-- a two-byte number past the end is refused at its offset
 small-word : (b n : ℕ) (p : List ℕ) (o : ℕ) → o < b → Small b (wordAt n p o)
 unfolding wordAt
 small-word b n p o h = go (ltb (o + 1) (length p))
@@ -73,7 +70,7 @@ small-word b n p o h = go (ltb (o + 1) (length p))
     go true = tt
     go false = h
 
--- a count's refusal is at place 0, and a count is below 65,536
+-- a count is refused at place 0
 small-count : (b n : ℕ) (p : List ℕ) → 0 < b → Small b (countOf n p)
 unfolding countOf
 small-count b n p h = go (wordAt n p 0)
@@ -82,6 +79,7 @@ small-count b n p h = go (wordAt n p 0)
     go (ok c) = tt
     go (refuse n q) = h
 
+-- a count is below 65,536, as two bytes are
 pub count-small : (n : ℕ) (p : List ℕ) (c : ℕ) → Bytes p → countOf n p ≡ ok c → c < 65536
 unfolding countOf wordAt word
 count-small n p c h e = go (ltb (0 + 1) (length p)) e
@@ -90,6 +88,7 @@ count-small n p c h e = go (ltb (0 + 1) (length p)) e
     go true e = omega (arith, ok-injective e, h 0, h (0 + 1))
     go false e = absurd (never e)
 
+-- blocks from i on: the place is one of them
 small-blocks : (b base kind i n : ℕ) (f done : List ℕ) → i + n ≤ b → Small b (payloadFrom base kind i n f done)
 unfolding payloadFrom
 small-blocks b base kind i zero f done h = tt
@@ -105,6 +104,7 @@ small-payload b base kind limit f h l =
 
 -- ---- move lists
 
+-- moves from i on: the place is one of them
 small-moves : (b : ℕ) (m : Map) (k : ℕ) (p : List ℕ) (todo i : ℕ) (s : State) → i + todo ≤ b → Small b (movesFrom m k p todo i s)
 unfolding movesFrom
 small-moves b m k p zero i s h = tt
@@ -112,6 +112,7 @@ small-moves b m k p (suc todo) i s h =
     small-test b _ _ _ _ (omega arith) (λ t. small-test b _ _ _ _ (omega arith) (λ t. small-test b _ _ _ _ (omega arith) (λ t. small-test b _ _ _ _ (omega arith)
     (λ t. small-bind b _ _ (small-moves b m k p todo (i + 1) _ (omega arith)) (λ xs e. tt)))))
 
+-- robots from r on that are off their goals: the place is one of them
 small-on : (b r : ℕ) (vs gs : List ℕ) → r + length gs ≤ b → Small b (onGoals r vs gs)
 unfolding onGoals
 small-on b r vs [] h = tt
@@ -126,17 +127,20 @@ small-checked m pl p h l = small-bind 65536 _ _ (small-count 65536 45 p (omega a
 
 -- ---- plans
 
+-- a step is refused at its own number
 small-step : (b : ℕ) (m : Map) (k : ℕ) (p : List ℕ) (i o : ℕ) (s : State) → i < b → Small b (stepAt m k p i o s)
 unfolding stepAt
 small-step b m k p i o s h =
     small-test b _ _ _ _ h (λ t. small-test b _ _ _ _ h (λ t. small-test b _ _ _ _ h (λ t. small-test b _ _ _ _ h (λ t. small-test b _ _ _ _ h (λ t. small-test b _ _ _ _ h (λ t. small-test b _ _ _ _ h (λ t. tt)))))))
 
+-- steps from i on: the place is one of them
 small-steps : (b : ℕ) (m : Map) (k : ℕ) (p : List ℕ) (todo i o : ℕ) (s : State) → i + todo ≤ b → Small b (stepsFrom m k p todo i o s)
 unfolding stepsFrom
 small-steps b m k p zero i o s h = tt
 small-steps b m k p (suc todo) i o s h =
     small-bind b _ _ (small-step b m k p i o s (omega arith)) (λ one e. small-bind b _ _ (small-steps b m k p todo (i + 1) (one .next) (one .state) (omega arith)) (λ rest f. tt))
 
+-- zones from i on whose goals are out of reach: the place is one of them
 small-goals : (b i : ℕ) (zs : List Zone) (s g : State) → i + length zs ≤ b → Small b (goalsFrom i zs s g)
 unfolding goalsFrom
 small-goals b i [] s g h = tt
@@ -151,12 +155,14 @@ small-resolved m pl p h l = small-bind 65536 _ _ (small-count 65536 35 p (omega 
 
 -- ---- maps and placings
 
+-- the vertices of a zone: the place is the offset of one
 small-vertices : (b n : ℕ) (p : List ℕ) (todo o : ℕ) (seen : List ℕ) → o + todo ≤ b → Small b (readVertices n p todo o seen)
 unfolding readVertices
 small-vertices b n p zero o seen h = tt
 small-vertices b n p (suc todo) o seen h =
     small-bind b _ _ (small-byte b 15 p o (omega arith)) (λ v e. small-test b _ _ _ _ (omega arith) (λ t. small-vertices b n p todo (o + 1) (seen ++ (v ∷ [])) (omega arith)))
 
+-- a zone's kind and size: the place is the offset of one of the two
 small-head : (b : ℕ) (p : List ℕ) (o : ℕ) → o + 1 < b → Small b (readHead p o)
 unfolding readHead
 small-head b p o h =
@@ -188,6 +194,7 @@ pub record ZonesSmall (todo o : ℕ) (zs : List Zone) (r : Read (List Zone)) : T
   pub many : length (r .it) ≡ length zs + todo
   pub near : r .next ≤ o + todo * 257
 
+-- zones that are read are so
 zones-small : (n : ℕ) (p : List ℕ) (todo o : ℕ) (zs : List Zone) (seen : List ℕ) (r : Read (List Zone)) → Bytes p → readZones n p todo o zs seen ≡ ok r → ZonesSmall todo o zs r
 unfolding readZones
 zones-small n p zero o zs seen r h e = rw (← ok-injective e) (record { many = omega arith; near = omega arith })
@@ -199,6 +206,7 @@ zones-small n p (suc todo) o zs seen r h e =
     let l : length z ≡ length zs + 1 = length-append zs _ in
     record { many = omega (arith, w .many); near = omega (arith, w .near, head-size p o (x .0) h (x .1)) }
 
+-- edges: the place is the offset of one
 small-edges : (b n : ℕ) (p : List ℕ) (todo o least : ℕ) (es : List Edge) → o + todo * 2 ≤ b → Small b (readEdges n p todo o least es)
 unfolding readEdges
 small-edges b n p zero o least es h = tt
@@ -206,16 +214,19 @@ small-edges b n p (suc todo) o least es h =
     small-bind b _ _ (small-byte b 15 p o (omega arith)) (λ x e. small-bind b _ _ (small-byte b 15 p (o + 1) (omega arith))
     (λ y f. small-test b _ _ _ _ (omega arith) (λ t. small-edges b n p todo (o + 2) (x * 256 + y + 1) (es ++ (record { a = x; b = y } ∷ [])) (omega arith))))
 
+-- zones from i on that are not of their kind: the place is one of them
 small-kinds : (b : ℕ) (m : Map) (i : ℕ) (zs : List Zone) → i + length zs ≤ b → Small b (kindsFrom m i zs)
 unfolding kindsFrom
 small-kinds b m i [] h = tt
 small-kinds b m i (z ∷ zs) h = small-test b _ _ _ _ (omega arith) (λ t. small-kinds b m (i + 1) zs (omega arith))
 
+-- the two counts of a map: the place is the offset of one
 small-counts : (p : List ℕ) → Small 65536 (countsOf p)
 unfolding countsOf
 small-counts p = small-bind 65536 _ _ (small-byte 65536 15 p 0 (omega arith)) (λ n e. small-test 65536 _ _ _ _ (omega arith)
     (λ t. small-bind 65536 _ _ (small-byte 65536 15 p 1 (omega arith)) (λ z f. small-test 65536 _ _ _ _ (omega arith) (λ u. tt))))
 
+-- a map has at most 64 zones
 few-zones : (p : List ℕ) (c : Counts) → countsOf p ≡ ok c → c .zones ≤ 64
 unfolding countsOf
 few-zones p c e =
@@ -246,6 +257,7 @@ small-map p h = small-bind 65536 _ _ (small-counts p) (λ c ec.
     (λ t. let d = leb→le e 2048 t in small-bind 65536 _ _ (small-edges 65536 (c .vertices) p e (zs .next + 2) 0 [] (omega (arith, w .1))) (λ es f. small-test 65536 _ _ _ _ (omega (arith, w .1)) (λ u. tt)))))
     (λ es ee. small-seq 65536 _ _ (small-kinds 65536 _ 0 (zs .it) (omega (arith, w .0))) tt)))
 
+-- starts and goals: the place is the offset of one
 small-robots : (b n : ℕ) (p : List ℕ) (todo o : ℕ) (ss gs : List ℕ) → o + todo * 2 ≤ b → Small b (readRobots n p todo o ss gs)
 unfolding readRobots
 small-robots b n p zero o ss gs h = tt
