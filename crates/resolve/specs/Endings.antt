@@ -114,9 +114,9 @@ module _ (m : Map) (a : Accepted m) (k : ℕ) (few : k ≤ 64) (s g : State) (hs
         let ms : List Move = across (zoneAt m i .vertices) (meaning.end (kindOf m i) (arrangementIn m s i) (arrangementIn m g i)) in
         let e : u ≡ madeAll w ms = q ∙ rw (d .same i (le-refl i) h) in
         let z : u .state ≡ movedAll (w .state) ms = ap (λ (y : World). y .state) e ∙ state-is w ms in
-        let x : Acted m a (w .state) i ms (arrangementIn m g i) =
-        act m a k i h (laws (kindOf m i) .ends (arrangementIn m s i) (arrangementIn m g i) (proper m a k few s hs i h .once)
-        (arrangement-length s (zoneAt m i) ∙ sym (arrangement-length g (zoneAt m i))) (of-true (ends-at i h))) (w .state) (d .consistent) (sym (d .same i (le-refl i) h)) in
+        let x : Acted m (w .state) i ms (arrangementIn m g i) =
+        act m a i h (laws (kindOf m i) .ends (arrangementIn m s i) (arrangementIn m g i) (proper m a k few s hs i h .once)
+        (arrangement-length s (zoneAt m i) ∙ sym (arrangement-length g (zoneAt m i))) (of-true (ends-at i h))) (w .state) (d .consistent .rooms) (sym (d .same i (le-refl i) h)) in
         record {
           within = omega arith;
           consistent = rw z (consistent-all m a k (d .consistent) (x .legals));

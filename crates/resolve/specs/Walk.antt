@@ -69,7 +69,7 @@ module _ (m : Map) (g : Accepted m) (k : ℕ) (few : k ≤ 64) (s : State) (h : 
       let at-u = g .placed u (t .from) in
       let at-v = g .placed v (t .to) in
       let outward = laws (kindOf m z) .leaves (arrangementIn m s z) r (placeOf m u) (proper m g k few s h z (at-u .zone) .once) (rw (arrangement-length s (zoneAt m z)) (at-u .place)) (t .leaves) in
-      act m g k z (at-u .zone) (outward .1) s h refl .away (zoneOf m v) (at-v .zone) (λ e. t .apart (sym e))
+      act m g z (at-u .zone) (outward .1) s (h .rooms) refl .away (zoneOf m v) (at-v .zone) (λ e. t .apart (sym e))
 
   -- so leaving, entering from there and crossing make the step's moves
   pub step-made : (w a b c : World) → w .state ≡ s → a ≡ madeAll w (leaving m s r u) → b ≡ madeAll a (entering m (a .state) v behind list) → c ≡ world.made b (mv r u v)

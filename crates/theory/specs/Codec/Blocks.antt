@@ -35,25 +35,25 @@ payload-none base kind i f done = refl
 unfoldable pub bodyOf : ℕ → ℕ → List ℕ → List ℕ
 bodyOf kind i part = (kind ∷ 0 ∷ u16 i) ++ u16 (length part) ++ part ++ replicate (504 - length part) 0
 
+-- a block is its body and the body's checksum
+pub block-split : (kind i : ℕ) (part : List ℕ) → blockOf kind i part ≡ bodyOf kind i part ++ u16 (checksum (bodyOf kind i part))
+unfolding blockOf bodyOf
+block-split kind i part = refl
+
 module _ (kind i : ℕ) (part : List ℕ) (small : length part ≤ 504) where
   -- the body is 510 bytes
   body-length : length (bodyOf kind i part) ≡ 510
   unfolding bodyOf u16
   body-length = let l : length (part ++ replicate (504 - length part) 0) ≡ 504 = simp (length-append, length-replicate) (omega arith) in rw l
 
-  -- a block is its body and the body's checksum
-  pub block-split : blockOf kind i part ≡ bodyOf kind i part ++ u16 (checksum (bodyOf kind i part))
-  unfolding blockOf bodyOf
-  block-split = refl
-
   -- a block is 512 bytes
   pub block-length : length (blockOf kind i part) ≡ 512
   unfolding u16
-  block-length = rw (block-split, length-append, body-length)
+  block-length = rw (block-split kind i part, length-append, body-length)
 
   -- its first 510 bytes are the body
   block-front : take 510 (blockOf kind i part) ≡ bodyOf kind i part
-  block-front = rw block-split (take-at (bodyOf kind i part) _ 510 body-length)
+  block-front = rw (block-split kind i part) (take-at (bodyOf kind i part) _ 510 body-length)
 
   -- a checksum is a two-byte number
   checksum-small : (bs : List ℕ) → checksum bs < 65536
@@ -63,7 +63,7 @@ module _ (kind i : ℕ) (part : List ℕ) (small : length part ≤ 504) where
   -- the stored checksum is that of the body
   block-sum : word (blockOf kind i part) 510 ≡ checksum (take 510 (blockOf kind i part))
   unfolding word u16
-  block-sum = rw (block-front, block-split) (rw (first, second) (word-u16 c (checksum-small (bodyOf kind i part))))
+  block-sum = rw (block-front, block-split kind i part) (rw (first, second) (word-u16 c (checksum-small (bodyOf kind i part))))
     where
       c : ℕ
       c = checksum (bodyOf kind i part)

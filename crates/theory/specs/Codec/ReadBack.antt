@@ -31,13 +31,13 @@ module _ (kind : ℕ) (p : List ℕ) where
   blocks-length i (suc left) = rw (length-append, block-length kind i (take 504 (drop (i * 504) p)) (part-small i), blocks-length (i + 1) left) (omega arith)
 
   -- every part but the last is 504 bytes, and the last is not empty
-  part-filled : (i left : ℕ) → (i + left) * 504 < length p → length p ≤ (i + suc left) * 504 → T (filled (eqb left 0) (length (partAt i)))
+  part-filled : (i left : ℕ) → (i + left) * 504 < length p → T (filled (eqb left 0) (length (partAt i)))
   unfolding filled partAt
-  part-filled i zero h k =
+  part-filled i zero h =
       let l = length-take 504 (drop (i * 504) p) in
       let d = length-drop (i * 504) p in
       and-both _ _ (le→leb 1 (length (partAt i)) (omega arith)) (le→leb (length (partAt i)) 504 (omega arith))
-  part-filled i (suc left) h k = rw (eqb-false {m = suc left} {n = 0} (omega arith)) (eq→eqb (length (partAt i)) 504 (omega (arith, length-take 504 (drop (i * 504) p), length-drop (i * 504) p)))
+  part-filled i (suc left) h = rw (eqb-false {m = suc left} {n = 0} (omega arith)) (eq→eqb (length (partAt i)) 504 (omega (arith, length-take 504 (drop (i * 504) p), length-drop (i * 504) p)))
 
   -- written blocks are read back, after those before
   pub read-blocks : (base i left : ℕ) → (i + left) * 504 < length p + 504 → length p ≤ (i + left) * 504 → i + left ≤ 65536
@@ -47,7 +47,7 @@ module _ (kind : ℕ) (p : List ℕ) where
   read-blocks base i (suc left) c d e =
       let s : i * 504 + 504 ≡ (i + 1) * 504 = omega arith in
       let j : take (i * 504) p ++ take 504 (drop (i * 504) p) ≡ take ((i + 1) * 504) p = sym (take-add (i * 504) 504 p) ∙ ap (λ k. take k p) s in
-      read-block kind i (take 504 (drop (i * 504) p)) (part-small i) base left (blocksFrom kind p (i + 1) left) (take (i * 504) p) (omega arith) (part-filled i left (omega arith) (omega arith))
+      read-block kind i (take 504 (drop (i * 504) p)) (part-small i) base left (blocksFrom kind p (i + 1) left) (take (i * 504) p) (omega arith) (part-filled i left (omega arith))
       ∙ ap (payloadFrom base kind (i + 1) left (blocksFrom kind p (i + 1) left)) j ∙ read-blocks base (i + 1) left (omega arith) (omega arith) (omega arith)
 
 -- ---- the file
@@ -57,20 +57,16 @@ unfoldable pub blockCount : (p : List ℕ) → ℕ
 blockCount p = (length p + 503) / 504
 
 -- how long the file of a payload is
-pub length-file : (kind : ℕ) (p : List ℕ) → length (fileOf kind p) ≡ blockCount p * 512
+pub file-length : (kind : ℕ) (p : List ℕ) → length (fileOf kind p) ≡ blockCount p * 512
 unfolding fileOf blockCount
-length-file kind p = blocks-length kind p 0 ((length p + 503) / 504)
-
--- the same of a payload that is not empty
-pub file-length : (kind : ℕ) (p : List ℕ) → 1 ≤ length p → length (fileOf kind p) ≡ blockCount p * 512
-file-length kind p h = length-file kind p
+file-length kind p = blocks-length kind p 0 ((length p + 503) / 504)
 
 -- a written file is read back, of any kind and under any limit, if its payload is not empty, is within the limit and needs no more blocks than two bytes can number
 pub read-back : (base kind limit : ℕ) (p : List ℕ) → 1 ≤ length p → length p ≤ 504 * limit → length p ≤ 504 * 65536
     → payloadOf base kind limit (fileOf kind p) ≡ ok p
 unfolding payloadOf
 read-back base kind limit p h k l =
-    rw (length-file kind p, whole-mod (blockCount p), whole-div (blockCount p))
+    rw (file-length kind p, whole-mod (blockCount p), whole-div (blockCount p))
     (pass _ _ _ _ (and-both _ _ tt (and-both _ _ (le→leb _ _ low) (le→leb _ _ high))) ∙ all-read)
   where
     whole-mod : (n : ℕ) → n * 512 % 512 ≡ 0

@@ -31,21 +31,26 @@ module _ (b : List ℕ) (bytes : Bytes b) (whole : length b ≡ 512) where
   cut-end = drop-cons b 510 0 (omega arith) ∙ ap (λ r. getD b 510 0 ∷ r) (drop-cons b 511 0 (omega arith) ∙ ap (λ r. getD b 511 0 ∷ r) (rw (← whole) (drop-length b)))
 
   module _ (kind i : ℕ) (h : T (headOk kind i b)) (l : word b 4 ≤ 504) (z : T (all (λ x. eqb x 0) (drop (word b 4) (take 504 (drop 6 b))))) where
+    -- the block's part of the payload
     part : List ℕ
     part = take (word b 4) (drop 6 b)
 
+    -- it is as long as the fill says
     part-length : length part ≡ word b 4
     unfolding part
     part-length = length-take-le (word b 4) (drop 6 b) (omega (arith, length-drop 6 b))
 
+    -- bytes 2 and 3 are the block's number
     u16-i : u16 i ≡ getD b 2 0 ∷ getD b 3 0 ∷ []
     unfolding headOk word
     u16-i = ap u16 (sym (eqb→eq (getD b 2 0 * 256 + getD b 3 0) i (and-right _ _ (and-right _ _ h)))) ∙ u16-word (getD b 2 0) (getD b 3 0) (bytes 2) (bytes 3)
 
+    -- bytes 4 and 5 are the part's length
     u16-fill : u16 (length part) ≡ getD b 4 0 ∷ getD b 5 0 ∷ []
     unfolding word
     u16-fill = ap u16 part-length ∙ u16-word (getD b 4 0) (getD b 5 0) (bytes 4) (bytes 5)
 
+    -- bytes 6 to 509 are the part and zeros
     middle : take 504 (drop 6 b) ≡ part ++ replicate (504 - length part) 0
     unfolding part
     middle =
@@ -53,6 +58,7 @@ module _ (b : List ℕ) (bytes : Bytes b) (whole : length b ≡ 512) where
         sym (take-append-drop (word b 4) (take 504 (drop 6 b)))
         ∙ rw (take-take (word b 4) 504 (drop 6 b) l, part-length) (ap (λ r. take (word b 4) (drop 6 b) ++ r) (zeros-of _ z ∙ ap (λ n. replicate n 0) d))
 
+    -- all before the checksum is the body that is written for the part
     front : take 510 b ≡ bodyOf kind i part
     unfolding bodyOf headOk
     front = ap (take 510) cut-six
@@ -61,7 +67,7 @@ module _ (b : List ℕ) (bytes : Bytes b) (whole : length b ≡ 512) where
     -- a block that is read was written so
     pub written-block : T (eqb (word b 510) (checksum (take 510 b))) → b ≡ blockOf kind i (take (word b 4) (drop 6 b))
     unfolding part word
-    written-block c = rw (block-split kind i part (omega (arith, part-length)))
+    written-block c = rw (block-split kind i part)
         (sym (take-append-drop 510 b)
         ∙ rw (← front, ← eqb→eq (getD b 510 0 * 256 + getD b 511 0) (checksum (take 510 b)) c, u16-word (getD b 510 0) (getD b 511 0) (bytes 510) (bytes 511)) (ap (λ r. take 510 b ++ r) cut-end))
 

@@ -4,10 +4,10 @@ use mathlib.Core.Logic.{_≢_}
 use mathlib.Core.List.{List}
 use Prim.Native.Nat.{ℕ, _<_}
 use native.Mathlib.Omega.{arith}
-use lib.ListN.{length, getD, set, length-set}
-use Rattle.spec.specs.Layout.{Map, zoneAt}
-use Rattle.spec.specs.Arrangement.{Arrangement, Move}
-use Rattle.spec.specs.State.{State, robotOn, moved, movedAll, arrangementOf}
+use lib.ListN.{length, set, length-set}
+use Rattle.spec.specs.Layout.{Map}
+use Rattle.spec.specs.Arrangement.{Move}
+use Rattle.spec.specs.State.{State, robotOn, moved, movedAll}
 use Rattle.theory.specs.Maps.Layout.{Accepted}
 use Rattle.theory.specs.Maps.Moves.{Legal, Legals, stay, go, After, at-to, at-from, at-rest, after}
 
@@ -19,24 +19,24 @@ pub record Consistent (m : Map) (k : ℕ) (s : State) : Type 0 where
   pub known : (v : ℕ) → v < m .size → robotOn s v ≢ 255 → robotOn s v < k
   pub once : (u v : ℕ) → u < m .size → v < m .size → robotOn s u ≢ 255 → robotOn s u ≡ robotOn s v → u ≡ v
 
+-- a move keeps the length of the state
+pub moved-rooms : (s : State) (x : Move) → length (moved s x .robots) ≡ length (s .robots)
+unfolding moved
+moved-rooms s x = length-set (set (s .robots) (x .from) 255) (x .to) (x .robot) ∙ length-set (s .robots) (x .from) 255
+
 module _ (m : Map) (g : Accepted m) where
   -- what stands on a vertex after a legal move
-  pub legal-after : (k : ℕ) (s : State) (x : Move) (v : ℕ) → Consistent m k s → Legal m s x → After s x v (robotOn (moved s x) v)
-  legal-after k s x v h l =
+  pub legal-after : (s : State) (x : Move) (v : ℕ) → length (s .robots) ≡ 128 → Legal m s x → After s x v (robotOn (moved s x) v)
+  legal-after s x v h l =
       let e = g .ends (x .from) (x .to) (l .near) in
-      after s x v (omega (arith, h .rooms, g .small)) (omega (arith, h .rooms, g .small)) (e .2)
-
-  -- a move keeps the length of the state
-  moved-rooms : (s : State) (x : Move) → length (moved s x .robots) ≡ length (s .robots)
-  unfolding moved
-  moved-rooms s x = length-set (set (s .robots) (x .from) 255) (x .to) (x .robot) ∙ length-set (s .robots) (x .from) 255
+      after s x v (omega (arith, h, g .small)) (omega (arith, h, g .small))
 
   -- a legal move keeps that
   pub consistent-moved : (k : ℕ) (s : State) (x : Move) → Consistent m k s → Legal m s x → Consistent m k (moved s x)
   consistent-moved k s x h l = record {
     rooms = moved-rooms s x ∙ h .rooms;
-    known = λ v a b. known v (robotOn (moved s x) v) a (legal-after k s x v h l) b;
-    once = λ u v a b c d. once u v (robotOn (moved s x) u) (robotOn (moved s x) v) a b (legal-after k s x u h l) (legal-after k s x v h l) c d;
+    known = λ v a b. known v (robotOn (moved s x) v) a (legal-after s x v (h .rooms) l) b;
+    once = λ u v a b c d. once u v (robotOn (moved s x) u) (robotOn (moved s x) v) a b (legal-after s x u (h .rooms) l) (legal-after s x v (h .rooms) l) c d;
   }
     where
       e : (x .from < m .size) × (x .to < m .size) × (x .from ≢ x .to)

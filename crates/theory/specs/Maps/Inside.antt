@@ -15,7 +15,14 @@ use Rattle.theory.specs.Zones.Arrangements.{cell-inside}
 use Rattle.theory.specs.Maps.Layout.{Accepted}
 use Rattle.theory.specs.Maps.Cells.{cell-of, cell-none, cell-robot, cell-empty, onto, arrangement-length, arrangement-cell, onto-other, onto-here, cell-injective}
 use Rattle.theory.specs.Maps.Moves.{Legal, Legals, stay, go, silent-move}
-use Rattle.theory.specs.Maps.Consistent.{Consistent, consistent-moved}
+use Rattle.theory.specs.Maps.Consistent.{moved-rooms}
+
+-- the moves are legal, bring zone z to b, leave the other zones alone and draw nothing
+pub record Acted (m : Map) (s : State) (z : ℕ) (xs : List Move) (b : Arrangement) : Type 0 where
+  pub legals : Legals m s xs
+  pub here : arrangementIn m (movedAll s xs) z ≡ b
+  pub away : (y : ℕ) → y < zoneCount m → y ≢ z → arrangementIn m (movedAll s xs) y ≡ arrangementIn m s y
+  pub silent : drawnSteps m s xs ≡ []
 
 module _ (m : Map) (g : Accepted m) where
   -- ---- arrangements after a store
@@ -77,7 +84,7 @@ module _ (m : Map) (g : Accepted m) where
 
   -- ---- moves inside a zone
 
-  module _ (k : ℕ) (s : State) (h : Consistent m k s) (z : ℕ) (hz : z < zoneCount m) where
+  module _ (s : State) (z : ℕ) (hz : z < zoneCount m) where
     -- a legal move of the arrangement is a legal move of the map
     pub inside-legal : (x : Move) → Inside (kindOf m z) x (arrangementIn m s z) → Legal m s (mv (x .robot) (vertexAt m z (x .from)) (vertexAt m z (x .to)))
     inside-legal x i =
@@ -100,20 +107,13 @@ module _ (m : Map) (g : Accepted m) where
       within = rw (arrangement-length s (zoneAt m z)) b;
     }
 
-  -- the moves are legal, bring zone z to b, leave the other zones alone and draw nothing
-  pub record Acted (s : State) (z : ℕ) (xs : List Move) (b : Arrangement) : Type 0 where
-    pub legals : Legals m s xs
-    pub here : arrangementIn m (movedAll s xs) z ≡ b
-    pub away : (y : ℕ) → y < zoneCount m → y ≢ z → arrangementIn m (movedAll s xs) y ≡ arrangementIn m s y
-    pub silent : drawnSteps m s xs ≡ []
-
-  module _ (k z : ℕ) (hz : z < zoneCount m) where
+  module _ (z : ℕ) (hz : z < zoneCount m) where
     -- one move inside a zone, then the rest
-    acted-on : {x : Move} (xs : List Move) {s : State} {b : Arrangement} → Consistent m k s → Inside (kindOf m z) x (arrangementIn m s z)
-        → Acted (moved s (mv (x .robot) (vertexAt m z (x .from)) (vertexAt m z (x .to)))) z (across (zoneAt m z .vertices) xs) b → Acted s z (across (zoneAt m z .vertices) (x ∷ xs)) b
+    acted-on : {x : Move} (xs : List Move) {s : State} {b : Arrangement} → Inside (kindOf m z) x (arrangementIn m s z)
+        → Acted m (moved s (mv (x .robot) (vertexAt m z (x .from)) (vertexAt m z (x .to)))) z (across (zoneAt m z .vertices) xs) b → Acted m s z (across (zoneAt m z .vertices) (x ∷ xs)) b
     unfolding across acrossMove movedAll
-    acted-on {x} xs {s} h i r =
-        let l = inside-legal k s h z hz x i in
+    acted-on {x} xs {s} i r =
+        let l = inside-legal s z hz x i in
         let f : x .from < sizeOf m z = rw (arrangement-length s (zoneAt m z)) at (cell-inside (arrangementIn m s z) (x .from) (x .robot) (i .there)) in
         let t : x .to < sizeOf m z = rw (arrangement-length s (zoneAt m z)) at (i .within) in
         let a = g .inside z (x .from) hz f in
@@ -127,12 +127,12 @@ module _ (m : Map) (g : Accepted m) where
         }
 
     -- a run in a zone's arrangement acts so on the map
-    pub act : {xs : List Move} {a b : Arrangement} → Runs (kindOf m z) xs a b → (s : State) → Consistent m k s → a ≡ arrangementIn m s z → Acted s z (across (zoneAt m z .vertices) xs) b
+    pub act : {xs : List Move} {a b : Arrangement} → Runs (kindOf m z) xs a b → (s : State) → length (s .robots) ≡ 128 → a ≡ arrangementIn m s z → Acted m s z (across (zoneAt m z .vertices) xs) b
     act done s h e = record { legals = unfold across in stay; here = unfold across movedAll in sym e; away = λ y hy n. unfold across movedAll in refl; silent = unfold across drawnSteps in refl }
     act (_then_ {x} {xs} i r) s h e =
         let j : Inside (kindOf m z) x (arrangementIn m s z) = rw e at i in
-        let l = inside-legal k s h z hz x j in
+        let l = inside-legal s z hz x j in
         let f : x .from < sizeOf m z = rw (arrangement-length s (zoneAt m z)) at (cell-inside (arrangementIn m s z) (x .from) (x .robot) (j .there)) in
         let t : x .to < sizeOf m z = rw (arrangement-length s (zoneAt m z)) at (j .within) in
-        acted-on xs h j (act r (moved s (mv (x .robot) (vertexAt m z (x .from)) (vertexAt m z (x .to)))) (consistent-moved m g k s _ h l)
-        (ap (λ q. apply q x) e ∙ sym (arrangement-within s z (x .robot) (x .from) (x .to) (h .rooms) hz f t (l .robot))))
+        acted-on xs j (act r (moved s (mv (x .robot) (vertexAt m z (x .from)) (vertexAt m z (x .to)))) (moved-rooms s _ ∙ h)
+        (ap (λ q. apply q x) e ∙ sym (arrangement-within s z (x .robot) (x .from) (x .to) h hz f t (l .robot))))

@@ -100,9 +100,9 @@ pub data After (s : State) (x : Move) (v : ℕ) : ℕ → Type 0 where
   at-rest : v ≢ x .from → v ≢ x .to → After s x v (robotOn s v)
 
 -- a move changes two vertices
-pub after : (s : State) (x : Move) (v : ℕ) → x .from < length (s .robots) → x .to < length (s .robots) → x .from ≢ x .to → After s x v (robotOn (moved s x) v)
+pub after : (s : State) (x : Move) (v : ℕ) → x .from < length (s .robots) → x .to < length (s .robots) → After s x v (robotOn (moved s x) v)
 unfolding moved
-after s x v f t d = case (ℕ-discrete v (x .to)) (ℕ-discrete v (x .from))
+after s x v f t = case (ℕ-discrete v (x .to)) (ℕ-discrete v (x .from))
   where
     case : Dec (v ≡ x .to) → Dec (v ≡ x .from) → After s x v (getD (set (set (s .robots) (x .from) 255) (x .to) (x .robot)) v 255)
     case (yes e) w = rw (e, getD-set-same (set (s .robots) (x .from) 255) (x .to) (x .robot) 255 (omega (arith, length-set (s .robots) (x .from) 255))) (at-to refl)

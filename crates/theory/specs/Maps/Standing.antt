@@ -46,6 +46,11 @@ padding [] n r h = getD-uniform n r 255
 padding (v ∷ vs) n zero h = absurd (not-suc-le-zero h)
 padding (v ∷ vs) n (suc r) h = padding vs n r (le-of-suc-le-suc h)
 
+-- where a robot is placed
+pub vertex : (vs : List ℕ) (r : ℕ) → r < length vs → getD (standing vs .vertices) r 255 ≡ getD vs r 0
+unfolding standing
+vertex vs r h = List·getD-append vs (replicate (64 - length vs) 255) 255 r h ∙ getD-default vs r 255 0 h
+
 module _ (m : Map) (g : Accepted m) (vs : List ℕ) (f : Fresh (m .size) [] vs) (few : length vs ≤ 64) where
   -- what stands on v
   data Occupant (v : ℕ) : ℕ → Type 0 where
@@ -66,11 +71,6 @@ module _ (m : Map) (g : Accepted m) (vs : List ℕ) (f : Fresh (m .size) [] vs) 
           let q : getD (put (replicate 128 255) 0 vs) v 255 ≡ 255 = put-other (replicate 128 255) 0 vs v (of-false e) ∙ getD-replicate 128 v 255 255 (omega (arith, g .small)) in
           rw q empty
 
-  -- where a robot is placed
-  pub vertex : (r : ℕ) → r < length vs → getD (standing vs .vertices) r 255 ≡ getD vs r 0
-  unfolding standing
-  vertex r h = List·getD-append vs (replicate (64 - length vs) 255) 255 r h ∙ getD-default vs r 255 0 h
-
   -- a state read from a placing is so
   pub standing-tracks : Tracks m (length vs) (standing vs)
   unfolding standing
@@ -82,7 +82,7 @@ module _ (m : Map) (g : Accepted m) (vs : List ℕ) (f : Fresh (m .size) [] vs) 
     };
     places = length-append vs (replicate (64 - length vs) 255) ∙ rw (length-replicate {A = ℕ} (64 - length vs) 255) (omega arith);
     up = λ v h n. up v (robotOn (standing vs) v) (stands-on v h) n;
-    down = λ r h. (rw (vertex r h) (fresh-lt f r h), rw (vertex r h) (put-at f (replicate 128 255) 0 r (omega (arith, length-replicate {A = ℕ} 128 255, g .small)) h ∙ omega arith));
+    down = λ r h. (rw (vertex vs r h) (fresh-lt f r h), rw (vertex vs r h) (put-at f (replicate 128 255) 0 r (omega (arith, length-replicate {A = ℕ} 128 255, g .small)) h ∙ omega arith));
     out = λ r h. padding vs (64 - length vs) r h;
   }
     where
@@ -96,5 +96,5 @@ module _ (m : Map) (g : Accepted m) (vs : List ℕ) (f : Fresh (m .size) [] vs) 
       once u v r t empty w n q = absurd (n refl)
 
       up : (v r : ℕ) → Occupant v r → r ≢ 255 → getD (standing vs .vertices) r 255 ≡ v
-      up v r (stands i h e) n = vertex i h ∙ e
+      up v r (stands i h e) n = vertex vs i h ∙ e
       up v r empty n = absurd (n refl)

@@ -31,7 +31,7 @@ module _ (m : Map) (g : Accepted m) (k : ℕ) (few : k ≤ 64) where
   tracks-moved s x h l = record {
     consistent = consistent-moved m g k s x (h .consistent) l;
     places = length-set (s .vertices) (x .robot) (x .to) ∙ h .places;
-    up = λ v a n. up v (robotOn (moved s x) v) a (legal-after m g k s x v (h .consistent) l) n;
+    up = λ v a n. up v (robotOn (moved s x) v) a (legal-after m g s x v (h .consistent .rooms) l) n;
     down = λ r a. down r a (ℕ-discrete r (x .robot));
     out = λ r a. getD-set-other (s .vertices) (x .robot) r (x .to) 255 (omega (arith, known)) ∙ h .out r a;
   }
@@ -62,9 +62,9 @@ module _ (m : Map) (g : Accepted m) (k : ℕ) (few : k ≤ 64) where
       arrives v t q (at-rest p i) = absurd (i q)
 
       down : (r : ℕ) → r < k → Dec (r ≡ x .robot) → (getD (set (s .vertices) (x .robot) (x .to)) r 255 < m .size) × (robotOn (moved s x) (getD (set (s .vertices) (x .robot) (x .to)) r 255) ≡ r)
-      down r a (yes q) = rw (q, getD-set-same (s .vertices) (x .robot) (x .to) 255 (omega (arith, known, h .places))) (e .1, arrives (x .to) _ refl (legal-after m g k s x (x .to) (h .consistent) l))
+      down r a (yes q) = rw (q, getD-set-same (s .vertices) (x .robot) (x .to) 255 (omega (arith, known, h .places))) (e .1, arrives (x .to) _ refl (legal-after m g s x (x .to) (h .consistent .rooms) l))
       down r a (no q) = rw (getD-set-other (s .vertices) (x .robot) r (x .to) 255 q)
-          (h .down r a .0, stays (getD (s .vertices) r 255) r _ a q (h .down r a .1) (legal-after m g k s x (getD (s .vertices) r 255) (h .consistent) l))
+          (h .down r a .0, stays (getD (s .vertices) r 255) r _ a q (h .down r a .1) (legal-after m g s x (getD (s .vertices) r 255) (h .consistent .rooms) l))
 
   -- so do legal lists
   pub tracks-all : {s : State} {xs : List Move} → Tracks m k s → Legals m s xs → Tracks m k (movedAll s xs)
@@ -72,6 +72,7 @@ module _ (m : Map) (g : Accepted m) (k : ℕ) (few : k ≤ 64) where
   tracks-all h stay = h
   tracks-all h (go {s} {x} l r) = tracks-all (tracks-moved s x h l) r
 
+module _ (m : Map) (k : ℕ) where
   -- the same vertices, the same robots
   pub same-robots : (s t : State) → Tracks m k s → Tracks m k t → s .vertices ≡ t .vertices → (v : ℕ) → v < m .size → robotOn s v ≡ robotOn t v
   same-robots s t h i e v a = case (ℕ-discrete (robotOn s v) 255) (ℕ-discrete (robotOn t v) 255)
@@ -85,8 +86,8 @@ module _ (m : Map) (g : Accepted m) (k : ℕ) (few : k ≤ 64) where
       case (yes p) (no q) = carry t s i h (sym e) q
 
   -- the same robots, the same vertices
-  pub same-vertices : (s t : State) → Tracks m k s → Tracks m k t → ((v : ℕ) → v < m .size → robotOn s v ≡ robotOn t v) → s .vertices ≡ t .vertices
-  same-vertices s t h i e = ext-getD 255 (s .vertices) (t .vertices) (h .places ∙ sym (i .places)) (λ r a. case r (decLt r k))
+  pub same-vertices : k ≤ 64 → (s t : State) → Tracks m k s → Tracks m k t → ((v : ℕ) → v < m .size → robotOn s v ≡ robotOn t v) → s .vertices ≡ t .vertices
+  same-vertices few s t h i e = ext-getD 255 (s .vertices) (t .vertices) (h .places ∙ sym (i .places)) (λ r a. case r (decLt r k))
     where
       case : (r : ℕ) → Dec (r < k) → getD (s .vertices) r 255 ≡ getD (t .vertices) r 255
       case r (yes a) =

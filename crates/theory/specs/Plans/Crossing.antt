@@ -76,12 +76,12 @@ module _ (m : Map) (g : Accepted m) (k : ℕ) (few : k ≤ 64) (q : State) (hq :
   -- and is numbered below k
   robot-known : x .robot < k
   robot-known =
-      let a = robot-at m g k few q hq (zoneOf m (x .from)) (pu .zone) (stood .0) (x .robot) (stood .1) in
+      let a = robot-at m q (zoneOf m (x .from)) (stood .0) (x .robot) (stood .1) in
       rw (a .1) at (hq .known (vertexAt m (zoneOf m (x .from)) (stood .0)) (g .inside (zoneOf m (x .from)) (stood .0) (pu .zone) (a .0) .0) (λ e. a .2 (sym (a .1) ∙ e)))
 
   -- and is not in the entered zone
   absent-v : Absent (arrangementIn m q (zoneOf m (x .to))) (x .robot)
-  absent-v = absent m g k few q hq (zoneOf m (x .to)) (zoneOf m (x .from)) (pv .zone) (pu .zone) (λ e. n (sym e)) (stood .0) (x .robot) (stood .1)
+  absent-v = absent m g k q hq (zoneOf m (x .to)) (zoneOf m (x .from)) (pv .zone) (pu .zone) (λ e. n (sym e)) (stood .0) (x .robot) (stood .1)
 
   -- the neighbour that the step names
   behind : ℕ

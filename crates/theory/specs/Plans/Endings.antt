@@ -44,25 +44,25 @@ reached-cons : (q goal : State) (z : Zone) (zs : List Zone) (i : ℕ) → T (can
 unfolding goalsFrom
 reached-cons q goal z zs i t e = pass _ _ _ _ t ∙ ap (λ j. goalsFrom j zs q goal) (add-one i) ∙ e
 
-module _ (m : Map) (g : Accepted m) (k : ℕ) (few : k ≤ 64) where
-  -- the moves are legal, bring the zones from i on to the goals, leave the others alone and draw nothing
-  pub record Ended (goal t : State) (i : ℕ) (xs : List Move) : Type 0 where
-    pub legals : Legals m t xs
-    pub reached : (y : ℕ) → i ≤ y → y < zoneCount m → arrangementIn m (movedAll t xs) y ≡ arrangementIn m goal y
-    pub kept : (y : ℕ) → y < zoneCount m → y < i → arrangementIn m (movedAll t xs) y ≡ arrangementIn m t y
-    pub silent : drawnSteps m t xs ≡ []
+-- the moves are legal, bring the zones from i on to the goals, leave the others alone and draw nothing
+pub record Ended (m : Map) (goal t : State) (i : ℕ) (xs : List Move) : Type 0 where
+  pub legals : Legals m t xs
+  pub reached : (y : ℕ) → i ≤ y → y < zoneCount m → arrangementIn m (movedAll t xs) y ≡ arrangementIn m goal y
+  pub kept : (y : ℕ) → y < zoneCount m → y < i → arrangementIn m (movedAll t xs) y ≡ arrangementIn m t y
+  pub silent : drawnSteps m t xs ≡ []
 
-  module _ (s goal : State) (hs : Consistent m k s) (hg : Consistent m k goal) where
+module _ (m : Map) (g : Accepted m) (k : ℕ) (few : k ≤ 64) where
+  module _ (s goal : State) (hs : Consistent m k s) where
     -- a zone that passes is brought to its goals
     zone-ends : (n i : ℕ) → i + suc n ≡ zoneCount m → T (canEnd (kindOf m i) (arrangementIn m s i) (arrangementIn m goal i)) → (t : State) → Consistent m k t
-        → ((y : ℕ) → i ≤ y → y < zoneCount m → arrangementIn m t y ≡ arrangementIn m s y) → Acted m g t i (across (zoneAt m i .vertices) (end (kindOf m i) (arrangementIn m s i) (arrangementIn m goal i))) (arrangementIn m goal i)
+        → ((y : ℕ) → i ≤ y → y < zoneCount m → arrangementIn m t y ≡ arrangementIn m s y) → Acted m t i (across (zoneAt m i .vertices) (end (kindOf m i) (arrangementIn m s i) (arrangementIn m goal i))) (arrangementIn m goal i)
     zone-ends n i e c t ht same =
-        act m g k i (omega arith) (laws (kindOf m i) .ends (arrangementIn m s i) (arrangementIn m goal i) (proper m g k few s hs i (omega arith) .once)
-        (arrangement-length s (zoneAt m i) ∙ sym (arrangement-length goal (zoneAt m i))) c) t ht (sym (same i (le-refl i) (omega arith)))
+        act m g i (omega arith) (laws (kindOf m i) .ends (arrangementIn m s i) (arrangementIn m goal i) (proper m g k few s hs i (omega arith) .once)
+        (arrangement-length s (zoneAt m i) ∙ sym (arrangement-length goal (zoneAt m i))) c) t (ht .rooms) (sym (same i (le-refl i) (omega arith)))
 
     -- then those after it
-    ends-cons : (n i : ℕ) (xs ys : List Move) (t : State) → i + suc n ≡ zoneCount m → Acted m g t i xs (arrangementIn m goal i) → Ended goal (movedAll t xs) (suc i) ys → Ended goal t i (xs ++ ys)
-    ends-cons n i xs ys t e a r = record {
+    ends-cons : (i : ℕ) (xs ys : List Move) (t : State) → Acted m t i xs (arrangementIn m goal i) → Ended m goal (movedAll t xs) (suc i) ys → Ended m goal t i (xs ++ ys)
+    ends-cons i xs ys t a r = record {
       legals = legals-append ys (a .legals) (r .legals);
       reached = λ y l h. rw (moved-append t xs ys) (case y l h (ℕ-discrete y i));
       kept = λ y h l. rw (moved-append t xs ys) (r .kept y h (omega arith) ∙ a .away y h (omega arith));
@@ -75,7 +75,7 @@ module _ (m : Map) (g : Accepted m) (k : ℕ) (few : k ≤ 64) where
 
     -- the zones from i on
     ends-sound : (n i : ℕ) → i + n ≡ zoneCount m → goalsFrom i (drop i (m .zones)) s goal ≡ ok tt → (t : State) → Consistent m k t
-        → ((y : ℕ) → i ≤ y → y < zoneCount m → arrangementIn m t y ≡ arrangementIn m s y) → Ended goal t i (endingsFrom (drop i (m .zones)) s goal)
+        → ((y : ℕ) → i ≤ y → y < zoneCount m → arrangementIn m t y ≡ arrangementIn m s y) → Ended m goal t i (endingsFrom (drop i (m .zones)) s goal)
     unfolding drawnSteps movedAll
     ends-sound zero i e q t ht same =
         let z : drop i (m .zones) ≡ [] = drop-of-length-le (m .zones) {i = i} (omega arith) in
@@ -85,22 +85,22 @@ module _ (m : Map) (g : Accepted m) (k : ℕ) (few : k ≤ 64) where
         let a = goals-cons s goal (zoneAt m i) (drop (suc i) (m .zones)) i (rw cut at q) in
         let b = zone-ends n i e (a .0) t ht same in
         rw (cut, endings-cons s goal (zoneAt m i) (drop (suc i) (m .zones)))
-        (ends-cons n i _ _ t e b (ends-sound n (suc i) (omega arith) (a .1) (movedAll t (across (zoneAt m i .vertices) (end (kindOf m i) (arrangementIn m s i) (arrangementIn m goal i))))
+        (ends-cons i _ _ t b (ends-sound n (suc i) (omega arith) (a .1) (movedAll t (across (zoneAt m i .vertices) (end (kindOf m i) (arrangementIn m s i) (arrangementIn m goal i))))
         (consistent-all m g k ht (b .legals)) (λ y l h. b .away y h (omega arith) ∙ same y (omega arith) h)))
 
     -- zones that all pass are all brought to the goals
-    pub brought : goalsFrom 0 (m .zones) s goal ≡ ok tt → Ended goal s 0 (endingsFrom (m .zones) s goal)
+    pub brought : goalsFrom 0 (m .zones) s goal ≡ ok tt → Ended m goal s 0 (endingsFrom (m .zones) s goal)
     brought q = ends-sound (zoneCount m) 0 (zero-add (zoneCount m)) q s hs (λ y a b. refl)
 
   -- the goals are in the configurations reached
-  goals-reached : (q goal : State) → Consistent m k q → Consistent m k goal → SameTuple m q goal → (n i : ℕ) → i + n ≡ zoneCount m → goalsFrom i (drop i (m .zones)) q goal ≡ ok tt
-  goals-reached q goal hq hg st zero i e = rw (drop-of-length-le (m .zones) {i = i} (omega arith)) (unfold goalsFrom in refl)
-  goals-reached q goal hq hg st (suc n) i e =
+  goals-reached : (q goal : State) → Consistent m k q → SameTuple m q goal → (n i : ℕ) → i + n ≡ zoneCount m → goalsFrom i (drop i (m .zones)) q goal ≡ ok tt
+  goals-reached q goal hq st zero i e = rw (drop-of-length-le (m .zones) {i = i} (omega arith)) (unfold goalsFrom in refl)
+  goals-reached q goal hq st (suc n) i e =
       let cut : drop i (m .zones) ≡ zoneAt m i ∷ drop (suc i) (m .zones) = unfold zoneAt in drop-cons (m .zones) i (record { kind = 0; vertices = [] }) (omega arith) in
       rw cut (reached-cons q goal (zoneAt m i) (drop (suc i) (m .zones)) i
       (laws (kindOf m i) .can-end (arrangementIn m q i) (arrangementIn m goal i) (proper m g k few q hq i (omega arith) .once) (tuple-at m q goal st i (omega arith)))
-      (goals-reached q goal hq hg st n (suc i) (omega arith)))
+      (goals-reached q goal hq st n (suc i) (omega arith)))
 
   -- a state in the goals' tuple passes
-  pub goals-pass : (q goal : State) → Consistent m k q → Consistent m k goal → SameTuple m q goal → goalsFrom 0 (m .zones) q goal ≡ ok tt
-  goals-pass q goal hq hg st = goals-reached q goal hq hg st (zoneCount m) 0 (zero-add (zoneCount m))
+  pub goals-pass : (q goal : State) → Consistent m k q → SameTuple m q goal → goalsFrom 0 (m .zones) q goal ≡ ok tt
+  goals-pass q goal hq st = goals-reached q goal hq st (zoneCount m) 0 (zero-add (zoneCount m))

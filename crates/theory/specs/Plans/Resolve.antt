@@ -76,6 +76,16 @@ pub record Concrete (m : Map) (pl : Placing) (ss : List Step) (ms : List Move) :
   pub reached : movedAll (standing (pl .starts)) ms .vertices ≡ standing (pl .goals) .vertices
   pub drawn : drawnSteps m (standing (pl .starts)) ms ≡ ss
 
+-- the steps of a payload that is resolved, and its moves
+pub record Resolved (m : Map) (pl : Placing) (p : List ℕ) (ms : List Move) : Type 0 where
+  pub steps : List Step
+  pub concrete : Concrete m pl steps ms
+  pub payload : p ≡ planPayload steps
+
+-- the moves of a walk, then those to the goals
+abbrev pub whole : Map → Placing → List Move → List Move
+whole m pl xs = xs ++ endingsFrom (m .zones) (movedAll (standing (pl .starts)) xs) (standing (pl .goals))
+
 module _ (m : Map) (g : Accepted m) (pl : Placing) (pd : Placed (m .size) pl) where
   -- the starts are a state that tracks
   pub start-tracks : Tracks m (length (pl .starts)) (standing (pl .starts))
@@ -85,16 +95,12 @@ module _ (m : Map) (g : Accepted m) (pl : Placing) (pd : Placed (m .size) pl) wh
   pub goal-tracks : Tracks m (length (pl .starts)) (standing (pl .goals))
   goal-tracks = rw (pd .same) (standing-tracks m g (pl .goals) (pd .goals) (omega (arith, pd .same, pd .few)))
 
-  -- the moves of a walk, then those to the goals
-  abbrev pub whole : List Move → List Move
-  whole xs = xs ++ endingsFrom (m .zones) (movedAll (standing (pl .starts)) xs) (standing (pl .goals))
-
   -- a walk that ends where the goals can be reached gives a legal list to the goals that draws its steps
   pub arrives : {ss : List Step} {xs : List Move} → Walk m (length (pl .starts)) (standing (pl .starts)) ss xs
-      → goalsFrom 0 (m .zones) (movedAll (standing (pl .starts)) xs) (standing (pl .goals)) ≡ ok tt → Concrete m pl ss (whole xs)
+      → goalsFrom 0 (m .zones) (movedAll (standing (pl .starts)) xs) (standing (pl .goals)) ≡ ok tt → Concrete m pl ss (whole m pl xs)
   arrives {ss} {xs} w q = record {
     legals = legals;
-    reached = same-vertices m g k (pd .few) _ (standing (pl .goals)) (tracks-all m g k (pd .few) start-tracks legals) goal-tracks
+    reached = same-vertices m k (pd .few) _ (standing (pl .goals)) (tracks-all m g k (pd .few) start-tracks legals) goal-tracks
         (arrangements-same m g (movedAll s (xs ++ E)) (standing (pl .goals)) (λ z h. rw (moved-append s xs E) (en .reached z (omega arith) h)));
     drawn = drawn-append m s xs E ∙ ap₂ {C = List Step} (λ a b. a ++ b) (wd .drawn) (en .silent) ∙ append-nil ss;
   }
@@ -111,8 +117,8 @@ module _ (m : Map) (g : Accepted m) (pl : Placing) (pd : Placed (m .size) pl) wh
       wd : Walked m s ss xs
       wd = walked m g k (pd .few) (start-tracks .consistent) w
 
-      en : Ended m g k (pd .few) (standing (pl .goals)) (movedAll s xs) 0 E
-      en = brought m g k (pd .few) (movedAll s xs) (standing (pl .goals)) (consistent-all m g k (start-tracks .consistent) (wd .legals)) (goal-tracks .consistent) q
+      en : Ended m (standing (pl .goals)) (movedAll s xs) 0 E
+      en = brought m g k (pd .few) (movedAll s xs) (standing (pl .goals)) (consistent-all m g k (start-tracks .consistent) (wd .legals)) q
 
       legals : Legals m s (xs ++ E)
       legals = legals-append E (wd .legals) (en .legals)
@@ -125,7 +131,7 @@ module _ (m : Map) (g : Accepted m) (pl : Placing) (pd : Placed (m .size) pl) wh
       let s = standing (pl .starts) in
       let w = abstract-walk m g k (pd .few) a s (start-tracks .consistent) (tuple-refl m s) in
       let l = walked m g k (pd .few) (start-tracks .consistent) (w .1) .legals in
-      (w .0, w .1, goals-pass m g k (pd .few) (movedAll s (w .0)) (standing (pl .goals)) (consistent-all m g k (start-tracks .consistent) l) (goal-tracks .consistent) (w .2))
+      (w .0, w .1, goals-pass m g k (pd .few) (movedAll s (w .0)) (standing (pl .goals)) (consistent-all m g k (start-tracks .consistent) l) (w .2))
 
   -- a legal list to the goals is an abstract plan
   pub concrete-abstract : {xs : List Move} → Legals m (standing (pl .starts)) xs → movedAll (standing (pl .starts)) xs .vertices ≡ standing (pl .goals) .vertices
@@ -133,16 +139,10 @@ module _ (m : Map) (g : Accepted m) (pl : Placing) (pd : Placed (m .size) pl) wh
   concrete-abstract {xs} l e =
       let k = length (pl .starts) in
       let t = movedAll (standing (pl .starts)) xs in
-      let same = same-arrangements m g t (standing (pl .goals)) (same-robots m g k (pd .few) t (standing (pl .goals)) (tracks-all m g k (pd .few) start-tracks l) goal-tracks e) in
+      let same = same-arrangements m g t (standing (pl .goals)) (same-robots m k t (standing (pl .goals)) (tracks-all m g k (pd .few) start-tracks l) goal-tracks e) in
       abstract-to m (standing (pl .goals)) (list-abstract m g k (pd .few) start-tracks l) (same-tuple m t (standing (pl .goals)) same)
 
   -- ---- plans as bytes
-
-  -- the steps of a payload that is resolved, and its moves
-  pub record Resolved (p : List ℕ) (ms : List Move) : Type 0 where
-    pub steps : List Step
-    pub concrete : Concrete m pl steps ms
-    pub payload : p ≡ planPayload steps
 
   -- a payload is its count and its steps
   plan-bytes : (p : List ℕ) (c : ℕ) (ran : Ran) → Bytes p → 2 ≤ length p → c ≡ getD p 0 0 * 256 + getD p 1 0 → (r : Reads m (length (pl .starts)) p c 2 (standing (pl .starts)) ran)
@@ -154,7 +154,7 @@ module _ (m : Map) (g : Accepted m) (pl : Placing) (pd : Placed (m .size) pl) wh
       ∙ ap (λ q. q ++ stepBytes D) (sym (u16-word (getD p 0 0) (getD p 1 0) (b 0) (b 1))) ∙ ap (λ q. u16 q ++ stepBytes D) (sym (r .count ∙ e)) ∙ sym (plan-split D)
 
   -- a plan that is resolved is that of a legal list to the goals
-  pub resolved-sound : (p : List ℕ) (ms : List Move) → Bytes p → resolvedMoves m pl p ≡ ok ms → Resolved p ms
+  pub resolved-sound : (p : List ℕ) (ms : List Move) → Bytes p → resolvedMoves m pl p ≡ ok ms → Resolved m pl p ms
   unfolding resolvedMoves
   resolved-sound p ms b e =
       let c = bound _ _ _ e in
@@ -166,7 +166,7 @@ module _ (m : Map) (g : Accepted m) (pl : Placing) (pd : Placed (m .size) pl) wh
       rw (← ok-injective (q .2)) (finish (c .0) (r .0) w (plan-bytes p (c .0) (r .0) b (f .0) (f .1) w (eqb→eq _ _ (n .0))) (q .1))
     where
       finish : (c : ℕ) (ran : Ran) (w : Reads m (length (pl .starts)) p c 2 (standing (pl .starts)) ran) → p ≡ planPayload (w .steps)
-          → goalsFrom 0 (m .zones) (ran .state) (standing (pl .goals)) ≡ ok tt → Resolved p (ran .moves ++ endingsFrom (m .zones) (ran .state) (standing (pl .goals)))
+          → goalsFrom 0 (m .zones) (ran .state) (standing (pl .goals)) ≡ ok tt → Resolved m pl p (ran .moves ++ endingsFrom (m .zones) (ran .state) (standing (pl .goals)))
       finish c ran w e q = record { steps = w .steps; concrete = rw (w .state) (arrives (w .way) (rw (w .state) at q)); payload = e }
 
   -- the checks of a walk's payload
@@ -183,7 +183,7 @@ module _ (m : Map) (g : Accepted m) (pl : Placing) (pd : Placed (m .size) pl) wh
       let k = length (pl .starts) in
       let s = standing (pl .starts) in
       let w = abstract-arrives a in (
-        whole (w .0),
+        whole m pl (w .0),
         finished (length ss) (planPayload ss) (walkRan s 2 ss (w .0)) (payload-count ss h)
             (walk-read m k (w .1) (planPayload ss) 0 2 [] (payload-tail ss ∙ sym (append-nil (stepBytes ss)))) (sym (plan-length ss)) (w .2),
       )

@@ -22,7 +22,7 @@ use Rattle.theory.specs.Zones.Moves.{reach-refl}
 abbrev pub Ready : Map → State → Move → Type 0
 Ready m s x = (t : State) × IsState t × SameTuple m s t × T (legal m t x) × (zoneOf m (x .from) ≢ zoneOf m (x .to))
 
-module _ (m : Map) (g : Accepted m) (k : ℕ) (few : k ≤ 64) (s : State) (h : Tracks m k s) (x : Move) where
+module _ (m : Map) (g : Accepted m) (s : State) (x : Move) where
   -- where a state has it legal its zones do
   pub ready-applicable : Ready m s x → Applicable m s x
   ready-applicable (t, i, p, l, n) =
@@ -36,8 +36,8 @@ module _ (m : Map) (g : Accepted m) (k : ℕ) (few : k ≤ 64) (s : State) (h : 
       }
 
   -- where its zones do, the moves inside them lead to a state that has
-  pub applicable-ready : Applicable m s x → Ready m s x
-  applicable-ready a = (second, record { robots = tracked .consistent .rooms; vertices = tracked .places }, same, legal-is m second x crossing, a .apart)
+  pub applicable-ready : (k : ℕ) → k ≤ 64 → Tracks m k s → Applicable m s x → Ready m s x
+  applicable-ready k few h a = (second, record { robots = tracked .consistent .rooms; vertices = tracked .places }, same, legal-is m second x crossing, a .apart)
     where
       u : ℕ
       u = zoneOf m (x .from)
@@ -63,14 +63,14 @@ module _ (m : Map) (g : Accepted m) (k : ℕ) (few : k ≤ 64) (s : State) (h : 
       first : State
       first = movedAll s out
 
-      acted-out : Acted m g s u out (a .leaves .0)
-      acted-out = act m g k u (pu .zone) (a .leaves .1 .1) s (h .consistent) refl
+      acted-out : Acted m s u out (a .leaves .0)
+      acted-out = act m g u (pu .zone) (a .leaves .1 .1) s (h .consistent .rooms) refl
 
       tracked-first : Tracks m k first
       tracked-first = tracks-all m g k few h (acted-out .legals)
 
-      acted-in : Acted m g first v into (a .enters .0)
-      acted-in = act m g k v (pv .zone) (a .enters .1 .1) first (tracked-first .consistent) (sym (acted-out .away v (pv .zone) (λ q. a .apart (sym q))))
+      acted-in : Acted m first v into (a .enters .0)
+      acted-in = act m g v (pv .zone) (a .enters .1 .1) first (tracked-first .consistent .rooms) (sym (acted-out .away v (pv .zone) (λ q. a .apart (sym q))))
 
       second : State
       second = movedAll first into

@@ -83,7 +83,7 @@ module _ (m : Map) (g : Accepted m) (k : ℕ) (few : k ≤ 64) where
       one : Reachable (kindOf m z) (arrangementIn m s z) (arrangementIn m (moved s x) z)
       one =
           let l′ : Legal m s (mv (x .robot) (vertexAt m z i) (vertexAt m z j)) = rw same l in
-          let w = legal-inside m g k s h z (u .zone) (x .robot) i j (u .place) (v .place) l′ in
+          let w = legal-inside m g s z (u .zone) (x .robot) i j (u .place) (v .place) l′ in
           let e′ : arrangementIn m (moved s x) z ≡ set (set (arrangementIn m s z) i 0) j (suc (x .robot)) = ap (λ y. arrangementIn m (moved s y) z) (sym same) ∙ arrangement-within m g s z (x .robot) i j (h .rooms) (u .zone) (u .place) (v .place) (l .robot) in
           rw e′ (mv (x .robot) i j ∷ [], _then_ w done)
 

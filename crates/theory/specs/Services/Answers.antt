@@ -24,14 +24,14 @@ abbrev pub refusal : ℕ → ℕ → ℕ → Answer
 refusal room n p = record { number = n; value = p; buffer = replicate room 0 }
 
 -- a file fits its blocks exactly where its payload does
-pub payload-within : (kind limit : ℕ) (p : List ℕ) → 1 ≤ length p → Within limit (fileOf kind p) → length p ≤ 504 * limit
+pub payload-within : (kind limit : ℕ) (p : List ℕ) → Within limit (fileOf kind p) → length p ≤ 504 * limit
 unfolding blockCount
-payload-within kind limit p h k = omega (arith, file-length kind p h)
+payload-within kind limit p k = omega (arith, file-length kind p)
 
 -- and the other way
-pub file-within : (kind limit : ℕ) (p : List ℕ) → 1 ≤ length p → length p ≤ 504 * limit → Within limit (fileOf kind p)
+pub file-within : (kind limit : ℕ) (p : List ℕ) → length p ≤ 504 * limit → Within limit (fileOf kind p)
 unfolding blockCount
-file-within kind limit p h k = omega (arith, file-length kind p h)
+file-within kind limit p k = omega (arith, file-length kind p)
 
 -- a check that fails refuses
 fail : {A : Type 0} (b : Bool) (n p : ℕ) (g : Outcome A) → (T b → ⊥) → (check b n p >> g) ≡ refuse n p
@@ -69,7 +69,7 @@ answers-short limit room f h k = record {
   wrote = λ e. absurd (omega arith);
 }
 
-module _ (kind limit room : ℕ) (p : List ℕ) (some : 1 ≤ length p) where
+module _ (kind limit room : ℕ) (p : List ℕ) where
   -- a payload and a file that fit
   fit : length p ≤ 504 * limit → length (fileOf kind p) ≤ room → fits kind limit room p ≡ ok (fileOf kind p)
   unfolding fits
@@ -90,12 +90,12 @@ module _ (kind limit room : ℕ) (p : List ℕ) (some : 1 ≤ length p) where
   fits-answers = case (decLe (length p) (504 * limit)) (decLe (length (fileOf kind p)) room)
     where
       over : (length p ≤ 504 * limit → ⊥) → Dec (length (fileOf kind p) ≤ limit * 512) → limit * 512 < length (fileOf kind p)
-      over h (yes q) = absurd (h (payload-within kind limit p some q))
+      over h (yes q) = absurd (h (payload-within kind limit p q))
       over h (no q) = omega arith
 
       case : Dec (length p ≤ 504 * limit) → Dec (length (fileOf kind p) ≤ room) → Answers limit room (fileOf kind p) (answerOf room (fits kind limit room p))
-      case (yes h) (yes k) = rw (fit h k) (unfold answerOf in answers-whole limit room (fileOf kind p) (file-within kind limit p some h) k)
-      case (yes h) (no k) = rw (unfit-60 h k) (unfold answerOf in answers-short limit room (fileOf kind p) (file-within kind limit p some h) (omega arith))
+      case (yes h) (yes k) = rw (fit h k) (unfold answerOf in answers-whole limit room (fileOf kind p) (file-within kind limit p h) k)
+      case (yes h) (no k) = rw (unfit-60 h k) (unfold answerOf in answers-short limit room (fileOf kind p) (file-within kind limit p h) (omega arith))
       case (no h) k = rw (unfit-61 h) (unfold answerOf in answers-over limit room (fileOf kind p) (over h (decLe (length (fileOf kind p)) (limit * 512))))
 
 -- what fits gives is a file that fits the buffer
@@ -138,30 +138,31 @@ left ns z room (refuse n p) h k = record {
 
 -- ---- a service: checks that give a value, and the file of the value's payload
 
-module _ {A : Type 0} (ns : List ℕ) (o : Outcome A) (numbered : Numbered ns o) (kind limit : ℕ) (payload : A → List ℕ) (some : (x : A) → 1 ≤ length (payload x)) (room : ℕ) where
+module _ {A : Type 0} (o : Outcome A) (kind limit : ℕ) (payload : A → List ℕ) (room : ℕ) where
   -- the service
   abbrev pub answer : Answer
   answer = answerOf room (o >>= λ x. fits kind limit room (payload x))
 
+  -- where the checks give a value the file answers
+  pub answer-of : (x : A) → o ≡ ok x → Answers limit room (fileOf kind (payload x)) answer
+  answer-of x e = rw (bind o x (λ x. fits kind limit room (payload x)) e) (fits-answers kind limit room (payload x))
+
+module _ {A : Type 0} (ns : List ℕ) (o : Outcome A) (numbered : Numbered ns o) (kind limit : ℕ) (payload : A → List ℕ) (room : ℕ) where
   -- its refusals are the checks' or 61 and 60
   answer-numbered : Numbered (ns ++ answerNumbers) (o >>= λ x. fits kind limit room (payload x))
   answer-numbered = numbered-bind (ns ++ answerNumbers) o (λ x. fits kind limit room (payload x)) (numbered-left ns answerNumbers o numbered)
       (λ x. numbered-right ns answerNumbers (fits kind limit room (payload x)) (numbered-fits kind limit room (payload x)))
 
   -- its number
-  pub answer-listed : In (answer .number) (0 ∷ ns ++ answerNumbers)
+  pub answer-listed : In (answer o kind limit payload room .number) (0 ∷ ns ++ answerNumbers)
   answer-listed = number-listed (ns ++ answerNumbers) room _ answer-numbered
 
   -- its buffer
-  pub answer-left : (In 0 (ns ++ answerNumbers) → ⊥) → Left room answer
+  pub answer-left : (In 0 (ns ++ answerNumbers) → ⊥) → Left room (answer o kind limit payload room)
   answer-left z = left (ns ++ answerNumbers) z room _ answer-numbered (λ f e. let w = bound o (λ x. fits kind limit room (payload x)) f e in fitted kind limit room (payload (w .0)) f (w .2))
 
-  -- where the checks give a value the file answers
-  pub answer-of : (x : A) → o ≡ ok x → Answers limit room (fileOf kind (payload x)) answer
-  answer-of x e = rw (bind o x (λ x. fits kind limit room (payload x)) e) (fits-answers kind limit room (payload x) (some x))
-
   -- 0 is returned for a value's file
-  pub answer-zero : (In 0 (ns ++ answerNumbers) → ⊥) → answer .number ≡ 0 → (x : A) × (o ≡ ok x)
+  pub answer-zero : (In 0 (ns ++ answerNumbers) → ⊥) → answer o kind limit payload room .number ≡ 0 → (x : A) × (o ≡ ok x)
   answer-zero z e =
       let f = number-zero (ns ++ answerNumbers) z room _ answer-numbered e in
       let w = bound o (λ x. fits kind limit room (payload x)) (f .0) (f .1) in

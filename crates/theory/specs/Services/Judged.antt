@@ -53,6 +53,6 @@ unfolding planMoves
 abstract-cleared a b c it ss i x e h =
     let s = instance-accepted a b it i in
     let one : 1 ≤ length (planPayload ss) = omega (arith, plan-length ss) in
-    let l : length (planPayload ss) ≤ 504 * 64 = payload-within 3 64 (planPayload ss) one (rw e at h) in
+    let l : length (planPayload ss) ≤ 504 * 64 = payload-within 3 64 (planPayload ss) (rw e at h) in
     let v = resolved-complete (it .graph) (s .accepted) (it .placing) (s .placed) ss x (omega (arith, step-bytes ss, plan-length ss)) in
     (v .0, bind _ _ _ i ∙ bind _ (planPayload ss) _ (rw e (read-file 30 3 64 (planPayload ss) one l (omega arith))) ∙ v .1)

@@ -100,7 +100,7 @@ replay-sound a b c w h e =
 pub read-moves : (xs : List Move) → Within 128 (moveFile xs) → payloadOf 40 4 128 (moveFile xs) ≡ ok (movesPayload xs)
 read-moves xs h =
     let one : 1 ≤ length (movesPayload xs) = omega (arith, moves-length xs) in
-    read-file 40 4 128 (movesPayload xs) one (payload-within 4 128 (movesPayload xs) one h) (omega arith)
+    read-file 40 4 128 (movesPayload xs) one (payload-within 4 128 (movesPayload xs) h) (omega arith)
 
 -- and every legal list to the goals that fits is accepted
 pub replay-complete : (a b : List ℕ) (it : Instance) (xs : List Move) → instanceOf a b ≡ ok it → Reaches it xs → Within 128 (moveFile xs)
@@ -108,8 +108,8 @@ pub replay-complete : (a b : List ℕ) (it : Instance) (xs : List Move) → inst
 unfolding replay
 replay-complete a b it xs i r h =
     let s = instance-accepted a b it i in
-    let l : length (movesPayload xs) ≤ 504 * 128 = payload-within 4 128 (movesPayload xs) (omega (arith, moves-length xs)) h in
-    let k = checked-complete (it .graph) (s .accepted) (it .placing) (s .placed) xs (start-tracks (it .graph) (s .accepted) (it .placing) (s .placed) .consistent)
+    let l : length (movesPayload xs) ≤ 504 * 128 = payload-within 4 128 (movesPayload xs) h in
+    let k = checked-complete (it .graph) (s .accepted) (it .placing) xs (start-tracks (it .graph) (s .accepted) (it .placing) (s .placed) .consistent)
     (are-legal (it .graph) (start it) xs (r .0)) (r .1) (omega (arith, moves-length xs)) in
     bind _ _ _ i ∙ bind _ _ _ (read-moves xs h) ∙ bind _ _ _ k
 

@@ -80,5 +80,5 @@ sheet-length xs = omega (arith, words-length (roundsFrom [] xs), rounds-length [
 pub sheetFits : SheetFits
 unfolding SheetFits
 sheetFits it xs h =
-    let l = payload-within 4 128 (movesPayload xs) (omega (arith, moves-length xs)) h in
-    file-within 5 128 (roundsPayload xs) (omega (arith, sheet-length xs)) (omega (arith, sheet-length xs, moves-length xs))
+    let l = payload-within 4 128 (movesPayload xs) h in
+    file-within 5 128 (roundsPayload xs) (omega (arith, sheet-length xs, moves-length xs))

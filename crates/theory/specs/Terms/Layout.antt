@@ -70,7 +70,7 @@ unfolding InsideZones
 insideZones a b it xs i l z ys c h r =
     let s = instance-accepted a b it i in
     let t = reached-tracks a b it xs i (are-legal (it .graph) (start it) xs l) in
-    let w = act (it .graph) (s .accepted) (length (it .placing .starts)) z h r (movedAll (start it) xs) (t .consistent) refl in
+    let w = act (it .graph) (s .accepted) z h r (movedAll (start it) xs) (t .consistent .rooms) refl in
     record { legals = legal-all (w .legals); here = w .here; others = w .away; silent = w .silent }
 
 -- a crossing changes two zones

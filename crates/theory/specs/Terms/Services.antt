@@ -7,16 +7,14 @@ use native.Mathlib.Omega.{arith}
 use lib.ListN.{length, take, replicate}
 use lib.Seq.{take-at}
 use lib.Dec.{T}
-use Rattle.spec.specs.Outcome.{Outcome, ok, refuse, _>>=_, member, u16}
+use Rattle.spec.specs.Outcome.{Outcome, ok, refuse, _>>=_, member}
 use Rattle.spec.specs.Wire.{fileOf}
 use Rattle.spec.specs.Arrangement.{Move}
-use Rattle.spec.specs.State.{drawnSteps, movesPayload, roundsPayload}
+use Rattle.spec.specs.State.{drawnSteps, movesPayload}
 use Rattle.spec.specs.Services.{Instance, Answer, fits, answerOf, planMoves, judging, resolving, drawing, rounds}
 use Rattle.spec.specs.Terms.{Writing, Gives, Takes, start, planNumbers, listNumbers, answerNumbers, moveFile, planFile, writes, Within, controller, Zeroed, Listed, Refuses, Resolves, Cleared, Draws, Drawn, OneList, OnePlan, RoundTrip, Times, Timed, Sound, Complete, Terms, Ryan}
 use Rattle.theory.specs.Basics.Outcomes.{ok-injective, bound}
 use Rattle.theory.specs.Maps.Moves.{legal-all}
-use Rattle.theory.specs.Plans.MoveList.{moves-length}
-use Rattle.theory.specs.Plans.Resolve.{plan-length}
 use Rattle.theory.specs.Services.Refusals.{Numbered, numbered-bind, numbered-plan}
 use Rattle.theory.specs.Services.Answers.{number-listed, number-zero, left, answer-listed, answer-left, answer-of, answer-zero}
 use Rattle.theory.specs.Services.Judged.{cleared-plan, cleared-file, abstract-cleared}
@@ -39,19 +37,6 @@ list-zero t = t
 judge-zero : T (member 0 planNumbers) → ⊥
 unfolding member
 judge-zero t = t
-
--- no payload is empty
-some-moves : (xs : List Move) → 1 ≤ length (movesPayload xs)
-some-moves xs = omega (arith, moves-length xs)
-
--- no plan is
-some-plan : (w : Replay) → 1 ≤ length (planOf w)
-some-plan w = omega (arith, plan-length (drawnSteps (w .it .graph) (start (w .it)) (w .moves)))
-
--- no round sheet is
-some-sheet : (w : Replay) → 1 ≤ length (sheetOf w)
-unfolding roundsPayload u16
-some-sheet w = omega arith
 
 -- judging's checks are resolving's
 judge-numbered : (a b c : List ℕ) → Numbered {A = List ℕ} planNumbers (planMoves a b c >>= λ ms. ok [])
@@ -77,9 +62,9 @@ pub zeroed : Zeroed controller
 unfolding Zeroed judging resolving
 zeroed a b c room = (
   left planNumbers judge-zero 0 _ (judge-numbered a b c) (λ f e. let g = bound (planMoves a b c) (λ ms. ok []) f e in rw (← ok-injective (g .2)) (omega arith)),
-  answer-left planNumbers (planMoves a b c) (numbered-plan a b c) 4 128 movesPayload some-moves room plan-zero,
-  rw (drawing-is a b c room) (answer-left listNumbers (replay a b c) (numbered-replay a b c) 3 64 planOf some-plan room list-zero),
-  rw (rounds-is a b c room) (answer-left listNumbers (replay a b c) (numbered-replay a b c) 5 128 sheetOf some-sheet room list-zero),
+  answer-left planNumbers (planMoves a b c) (numbered-plan a b c) 4 128 movesPayload room plan-zero,
+  rw (drawing-is a b c room) (answer-left listNumbers (replay a b c) (numbered-replay a b c) 3 64 planOf room list-zero),
+  rw (rounds-is a b c room) (answer-left listNumbers (replay a b c) (numbered-replay a b c) 5 128 sheetOf room list-zero),
 )
 
 -- every number is of the table
@@ -87,9 +72,9 @@ pub listed : Listed controller
 unfolding Listed judging resolving
 listed a b c room = (
   number-listed planNumbers 0 (planMoves a b c >>= λ ms. ok []) (judge-numbered a b c),
-  answer-listed planNumbers (planMoves a b c) (numbered-plan a b c) 4 128 movesPayload some-moves room,
-  rw (drawing-is a b c room) (answer-listed listNumbers (replay a b c) (numbered-replay a b c) 3 64 planOf some-plan room),
-  rw (rounds-is a b c room) (answer-listed listNumbers (replay a b c) (numbered-replay a b c) 5 128 sheetOf some-sheet room),
+  answer-listed planNumbers (planMoves a b c) (numbered-plan a b c) 4 128 movesPayload room,
+  rw (drawing-is a b c room) (answer-listed listNumbers (replay a b c) (numbered-replay a b c) 3 64 planOf room),
+  rw (rounds-is a b c room) (answer-listed listNumbers (replay a b c) (numbered-replay a b c) 5 128 sheetOf room),
 )
 
 -- resolving refuses what judging refuses
@@ -108,7 +93,7 @@ pub resolves : Resolves judging resolving
 unfolding Resolves resolving
 resolves a b c room e =
     let j = judged a b c e in
-    (j .0, j .1, answer-of planNumbers (planMoves a b c) (numbered-plan a b c) 4 128 movesPayload some-moves room (j .0) (j .1))
+    (j .0, j .1, answer-of (planMoves a b c) 4 128 movesPayload room (j .0) (j .1))
 
 -- ---- demand 2
 
@@ -124,7 +109,7 @@ cleared a b c h = (
 )
 
 -- a service that checks the list and then writes a file of it
-module _ (kind limit : ℕ) (payload : Replay → List ℕ) (some : (w : Replay) → 1 ≤ length (payload w)) (write : Writing)
+module _ (kind limit : ℕ) (payload : Replay → List ℕ) (write : Writing)
     (is : (a b c : List ℕ) (room : ℕ) → write a b c room ≡ answerOf room (replay a b c >>= λ w. fits kind limit room (payload w))) where
   -- the file of a list
   abbrev fileFor : Instance → List Move → List ℕ
@@ -133,34 +118,36 @@ module _ (kind limit : ℕ) (payload : Replay → List ℕ) (some : (w : Replay)
   -- it answers a legal list to the goals
   gives : Gives limit fileFor write
   gives a b it xs room i r h = rw (is a b (moveFile xs) room)
-      (answer-of listNumbers (replay a b (moveFile xs)) (numbered-replay a b (moveFile xs)) kind limit payload some room (record { it = it; moves = xs }) (replay-complete a b it xs i r h))
+      (answer-of (replay a b (moveFile xs)) kind limit payload room (record { it = it; moves = xs }) (replay-complete a b it xs i r h))
 
   -- and accepts nothing else
   takes : Takes limit fileFor write
   takes a b c room h e =
       let z = rw (is a b c room) at e in
-      let w = answer-zero listNumbers (replay a b c) (numbered-replay a b c) kind limit payload some room list-zero z in
-      let x = answer-of listNumbers (replay a b c) (numbered-replay a b c) kind limit payload some room (w .0) (w .1) in
+      let w = answer-zero listNumbers (replay a b c) (numbered-replay a b c) kind limit payload room list-zero z in
+      let x = answer-of (replay a b c) kind limit payload room (w .0) (w .1) in
       let s = replay-sound a b c (w .0) h (w .1) in
       (w .0 .it, s .instance, w .0 .moves, s .reaches, s .file, s .size, x .whole .0 z .0, is a b c room ∙ x .wrote z)
 
 -- drawing answers with the plan
 pub draws : Draws drawing
 unfolding Draws
-draws = gives 3 64 planOf some-plan drawing drawing-is
+draws = gives 3 64 planOf drawing drawing-is
 
+-- and accepts nothing but such lists
 pub drawn : Drawn drawing
 unfolding Drawn
-drawn = takes 3 64 planOf some-plan drawing drawing-is
+drawn = takes 3 64 planOf drawing drawing-is
 
 -- rounds answers with the round sheet
 pub times : Times rounds
 unfolding Times
-times = gives 5 128 sheetOf some-sheet rounds rounds-is
+times = gives 5 128 sheetOf rounds rounds-is
 
+-- and accepts nothing else
 pub timed : Timed rounds
 unfolding Timed
-timed = takes 5 128 sheetOf some-sheet rounds rounds-is
+timed = takes 5 128 sheetOf rounds rounds-is
 
 -- a file that is written is what is read up to its length
 written : (room : ℕ) (x : Answer) (f : List ℕ) → x ≡ writes room f → take (x .value) (x .buffer) ≡ f
@@ -182,8 +169,8 @@ onePlan a b c room other h e f =
 pub sound : Sound resolving
 unfolding Sound resolving
 sound a b c room h e =
-    let w = answer-zero planNumbers (planMoves a b c) (numbered-plan a b c) 4 128 movesPayload some-moves room plan-zero e in
-    let x = answer-of planNumbers (planMoves a b c) (numbered-plan a b c) 4 128 movesPayload some-moves room (w .0) (w .1) in
+    let w = answer-zero planNumbers (planMoves a b c) (numbered-plan a b c) 4 128 movesPayload room plan-zero e in
+    let x = answer-of (planMoves a b c) 4 128 movesPayload room (w .0) (w .1) in
     let p = cleared-plan a b c (w .0) h (w .1) in
     (p .it, p .instance, w .0, (legal-all (p .concrete .legals), p .concrete .reached), cleared-file p, p .size, x .whole .0 e .0, x .wrote e)
 

@@ -20,7 +20,7 @@ use Rattle.theory.specs.Zones.Clique.Rule.{clique-reach}
 use Rattle.theory.specs.Zones.Ring.Turning.{Turned}
 use Rattle.theory.specs.Zones.Ring.Order.{runs-turned}
 use Rattle.theory.specs.Zones.Ring.Ending.{ring-goes}
-use Rattle.theory.specs.Zones.Kinds.{laws, opens, may-open}
+use Rattle.theory.specs.Zones.Kinds.{laws}
 
 -- ---- what is reachable
 
@@ -67,9 +67,9 @@ pub entering : (kind : ℕ) (a : Arrangement) (r j behind : ℕ) (list : List �
     ↔ ((b : Arrangement) × Reachable kind a b × (cell b j ≡ 0) × (behindOf kind b j ≡ behind) × (T (fills kind a) → list ≡ robotsOf (set b j (suc r))))
 entering kind a r j behind list d n h f = (
   λ t.
-      let s = opens kind a r j behind list d n h f t in
+      let s = laws kind .enters a r j behind list d n h f t in
       (s .0, (enter kind a j behind list, s .1), s .2 .clear, s .2 .named-behind, s .2 .listed),
-  λ s. may-open kind a (s .0) r j behind list d n h (s .1) (s .2) (s .3) (s .4),
+  λ s. laws kind .can-enter a (s .0) r j behind list d n h (s .1) (s .2) (s .3) (s .4),
 )
 
 -- the goals may be taken exactly if they are reachable; nothing is asked of the goals but their length

@@ -226,9 +226,9 @@ turn-length (suc n) a j behind = go (entryOpen a j behind) (turn-length n (apply
     go false h = omega (arith, length-append ms (turnFor n (applyAll a ms) j behind), push-length a (turnPlace a j), rw (applied-length a ms) at h, suc-mul n (length a))
 
 -- no place is further on than a whole turn
-ahead-le : (m p j : ℕ) → p ≤ m → j ≤ m → ahead m p j ≤ m
+ahead-le : (m p j : ℕ) → j ≤ m → ahead m p j ≤ m
 unfolding ahead
-ahead-le m p j h k = go (decLt (m + j - p) m)
+ahead-le m p j k = go (decLt (m + j - p) m)
   where
     go : Dec (m + j - p < m) → wrap m (m + j - p) ≤ m
     go (yes l) = rw (wrap-lt l) (omega arith)
@@ -239,7 +239,7 @@ pub push-to-length : (a : Arrangement) (r j : ℕ) → j ≤ length a → length
 unfolding pushTo
 push-to-length a r j h =
     let n = ahead (length a) (seek (suc r) a) j in
-    omega (arith, pushes-length n a (seek (suc r) a), mul-le-mul-right {m = n} {n = length a} (length a) (ahead-le (length a) (seek (suc r) a) j (seek-le (suc r) a) h))
+    omega (arith, pushes-length n a (seek (suc r) a), mul-le-mul-right {m = n} {n = length a} (length a) (ahead-le (length a) (seek (suc r) a) j h))
 
 -- the places but one are no more than all
 opened-le : (j : ℕ) (a : Arrangement) → length (opened j a) ≤ length a

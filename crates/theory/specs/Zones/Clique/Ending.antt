@@ -13,7 +13,7 @@ use Rattle.spec.specs.Clique.{sameRobots, cliqueTo, cliqueCanEnd, cliqueEnd}
 use Rattle.theory.specs.Basics.Tests.{Eqb, same, other, eqb?, same→eq, eq→same}
 use Rattle.theory.specs.Zones.Arrangements.{room-left, order-short, count-put, count-clear, free-count}
 use Rattle.theory.specs.Zones.Moves.{runs-full, runs-length, reach-refl}
-use Rattle.theory.specs.Zones.Robots.{same-robots, robots-same, runs-robots, robots-clear, robots-put, distinct-goal, distinct-clear, distinct-put}
+use Rattle.theory.specs.Zones.Robots.{same-robots, robots-same, runs-robots, robots-clear, robots-put, distinct-clear, distinct-put}
 use Rattle.theory.specs.Zones.Clique.Rule.{ready, solved, at-rest, clique-reach}
 
 -- a goal that may be taken is reached by the written moves
@@ -42,7 +42,7 @@ module _ (a b : Arrangement) (j r : ℕ) (d : Distinct a) (s : Reachable 3 a b) 
   clique-keeps-leave e f =
       let u = runs-robots (s .1) in
       clique-reach (set a j 0) (set b j 0) (distinct-clear a j d) (length-set a j 0 ∙ runs-length (s .1) ∙ sym (length-set b j 0))
-      (omega (arith, count-clear a j r e, order-short a, length-set a j 0)) (robots-clear j r d (distinct-goal a b d u) e f u)
+      (omega (arith, count-clear a j r e, order-short a, length-set a j 0)) (robots-clear j r d e f u)
 
   -- so do two which the same robot enters at j, the same ones where the clique is filled
   pub clique-keeps-enter : j < length a → cell a j ≡ 0 → cell b j ≡ 0 → ((i : ℕ) → cell a i ≢ suc r) → (T (lastFree a) → set a j (suc r) ≡ set b j (suc r)) → Reachable 3 (set a j (suc r)) (set b j (suc r))

@@ -32,7 +32,7 @@ clear-room a j h = go (eqb? (cell a j) 0)
         let w = seek-ok 0 a (v .0) (v .1) (v .2) in
         let e : cell a j ≡ suc (cell a j - 1) = omega arith in
         let l : Inside 3 (mv (cell a j - 1) j (seek 0 a)) a = hop e (w .0) (w .1) in
-        (apply a (mv (cell a j - 1) j (seek 0 a)), l ▸ done, at-from l, λ i r f k. at-other l i k (λ z. omega (arith, w .0, rw z at f)) ∙ f)
+        (apply a (mv (cell a j - 1) j (seek 0 a)), l ▸ done, at-from l, λ i r f k. at-other (mv (cell a j - 1) j (seek 0 a)) a i k (λ z. omega (arith, w .0, rw z at f)) ∙ f)
 
 -- a robot that may leave comes to j by the written moves
 pub clique-leave : (a : Arrangement) (r j : ℕ) → j < length a → T (cliqueCanLeave a r j) → (b : Arrangement) × Runs 3 (cliqueLeave a r j) a b × (cell b j ≡ suc r)

@@ -66,7 +66,7 @@ turn-loop (suc f) j n a h d nm g E m = go (lower j n a h d g nm E) (λ b. turn-l
 turn-first : (f j n : ℕ) (a : Arrangement) → j < length a → Distinct a → Named a → length (order a) < length a → cell a j ≡ suc n → spread (pushed (opened j a)) < f → Turns f j n a
 unfolding Turns
 turn-first zero j n a h d nm g e m = absurd (omega arith)
-turn-first (suc f) j n a h d nm g e m = go (push-off j n a h g e)
+turn-first (suc f) j n a h d nm g e m = go (push-off j n a g e)
   where
     go : (b : Arrangement) × Runs 4 (push a j) a b × (turn (suc j) b ≡ suc n ∷ pushed (opened j a)) × (length (order (opened j a)) < length (opened j a)) → Turns (suc f) j n a
     go (b, r, t, c) =

@@ -61,24 +61,24 @@ under! : {m p q : ℕ} → p ≡ 0 → suc q ≡ m → Round m p q
 under! i j = under i j
 
 -- places side by side stay so
-round-back : (m p q : ℕ) → p < m → q < m → Round m p q → Round m (back m p) (back m q)
+round-back : (m p q : ℕ) → p < m → Round m p q → Round m (back m p) (back m q)
 unfolding back
-round-back m zero zero h k (line (inl j)) = absurd (omega arith)
-round-back m zero zero h k (line (inr j)) = absurd (omega arith)
-round-back m zero zero h k (over i j) = over! (omega arith) (omega arith)
-round-back m zero zero h k (under i j) = over! (omega arith) (omega arith)
-round-back m zero (suc q) h k (line (inl j)) = over! (omega arith) (omega arith)
-round-back m zero (suc q) h k (line (inr j)) = absurd (omega arith)
-round-back m zero (suc q) h k (over i j) = absurd (omega arith)
-round-back m zero (suc q) h k (under i j) = off (omega arith)
-round-back m (suc p) zero h k (line (inl j)) = absurd (omega arith)
-round-back m (suc p) zero h k (line (inr j)) = under! (omega arith) (omega arith)
-round-back m (suc p) zero h k (over i j) = on (omega arith)
-round-back m (suc p) zero h k (under i j) = absurd (omega arith)
-round-back m (suc p) (suc q) h k (line (inl j)) = on (omega arith)
-round-back m (suc p) (suc q) h k (line (inr j)) = off (omega arith)
-round-back m (suc p) (suc q) h k (over i j) = absurd (omega arith)
-round-back m (suc p) (suc q) h k (under i j) = absurd (omega arith)
+round-back m zero zero h (line (inl j)) = absurd (omega arith)
+round-back m zero zero h (line (inr j)) = absurd (omega arith)
+round-back m zero zero h (over i j) = over! (omega arith) (omega arith)
+round-back m zero zero h (under i j) = over! (omega arith) (omega arith)
+round-back m zero (suc q) h (line (inl j)) = over! (omega arith) (omega arith)
+round-back m zero (suc q) h (line (inr j)) = absurd (omega arith)
+round-back m zero (suc q) h (over i j) = absurd (omega arith)
+round-back m zero (suc q) h (under i j) = off (omega arith)
+round-back m (suc p) zero h (line (inl j)) = absurd (omega arith)
+round-back m (suc p) zero h (line (inr j)) = under! (omega arith) (omega arith)
+round-back m (suc p) zero h (over i j) = on (omega arith)
+round-back m (suc p) zero h (under i j) = absurd (omega arith)
+round-back m (suc p) (suc q) h (line (inl j)) = on (omega arith)
+round-back m (suc p) (suc q) h (line (inr j)) = off (omega arith)
+round-back m (suc p) (suc q) h (over i j) = absurd (omega arith)
+round-back m (suc p) (suc q) h (under i j) = absurd (omega arith)
 
 -- a place so counted is a place
 back-lt : (m i : ℕ) → i < m → back m i < m
@@ -94,12 +94,12 @@ runs-turn1 {m} h (_then_ {x = v} {a = a} l r) =
     let i : v .from < length a = cell-inside a (v .from) (v .robot) (l .there) in
     let k : v .to < length (set a (v .from) 0) = rw (length-set a (v .from) 0) (l .within) in
     next (go-round (length-turn1 a ∙ h)
-    (round-back m (v .from) (v .to) (rw h at i) (rw h at (l .within)) (rw h at (round-near (length a) (v .from) (v .to) (l .near))))
+    (round-back m (v .from) (v .to) (rw h at i) (rw h at (round-near (length a) (v .from) (v .to) (l .near))))
     (rw (← h) (cell-back a (v .from) i ∙ l .there))
     (rw (← h) (cell-back a (v .to) (l .within) ∙ l .free))
     (rw (length-turn1 a, h) (back-lt m (v .to) (rw h at (l .within)))))
     (rw (← h) (rw (set-back a (v .from) 0 i) (rw (length-set a (v .from) 0) at (set-back (set a (v .from) 0) (v .to) (suc (v .robot)) k))))
-    (runs-turn1 (length-apply l ∙ h) r)
+    (runs-turn1 (length-apply v a ∙ h) r)
 
 -- ---- a run of a frame is a run of the ring
 
@@ -133,13 +133,13 @@ turn-wrap m k a l = go (decLt k m)
         ap (λ i. turn i a) (wrap-ge f) ∙ ap (turn (k - m)) (sym (turn-round a)) ∙ sym (turn-add (length a) (k - m) a) ∙ ap (λ i. turn i a) e
 
 -- a place of the frame at the next place is a place of the frame at this one
-wrap-back : (m p i : ℕ) → p < m → i < m → wrap m (suc p + back m i) ≡ wrap m (p + i)
+wrap-back : (m p i : ℕ) → p < m → wrap m (suc p + back m i) ≡ wrap m (p + i)
 unfolding back
-wrap-back m p zero h k =
+wrap-back m p zero h =
     let e : m ≤ suc p + (m - 1) = omega arith in
     let f : p + 0 < m = omega arith in
     wrap-ge e ∙ omega arith ∙ sym (wrap-lt f)
-wrap-back m p (suc i) h k = ap (wrap m) (omega arith)
+wrap-back m p (suc i) h = ap (wrap m) (omega arith)
 
 -- a move between places below m
 abbrev pub Within : ℕ → Move → Type 0
@@ -149,7 +149,7 @@ Within m v = (v .from < m) × (v .to < m)
 pub within : {m kind : ℕ} {ms : List Move} {a b : Arrangement} → length a ≡ m → Runs kind ms a b → Each (Within m) ms
 within h done = none
 within h (_then_ {x = v} {a = a} l r) =
-    omega (arith, cell-inside a (v .from) (v .robot) (l .there), l .within) & within (length-apply l ∙ h) r
+    omega (arith, cell-inside a (v .from) (v .robot) (l .there), l .within) & within (length-apply v a ∙ h) r
 
 -- functions that agree on a list's elements map it alike
 map-same : {A B : Type 0} {P : A → Type 0} {f g : A → B} {xs : List A} → ((x : A) → P x → f x ≡ g x) → Each P xs → map f xs ≡ map g xs
@@ -157,9 +157,9 @@ map-same e none = refl
 map-same {B} {g} e (_&&&_ {x} {xs} h hs) = ap₂ {C = List B} (λ y ys. y ∷ ys) (e x h) (map-same e hs)
 
 -- a move of the frame at the next place is one of the frame at this place
-from-back : (m p : ℕ) → p < m → (v : Move) → Within m v → inRing m (suc p) (backed m v) ≡ inRing m p v
+from-back : (m p : ℕ) → p < m → (v : Move) → inRing m (suc p) (backed m v) ≡ inRing m p v
 unfolding inRing backed
-from-back m p h v w = λ i. record { robot = v .robot; from = wrap-back m p (v .from) h (w .0) i; to = wrap-back m p (v .to) h (w .1) i }
+from-back m p h v = λ i. record { robot = v .robot; from = wrap-back m p (v .from) h i; to = wrap-back m p (v .to) h i }
 
 -- a move of the frame at a whole turn is itself
 from-all : (m : ℕ) (v : Move) → Within m v → inRing m m v ≡ v
@@ -181,7 +181,7 @@ runs-from zero p {m} {ms} e h r =
     let q : p ≡ m = omega arith in
     rw (q, map-is (from-all m) (within h r)) r
 runs-from (suc k) p {m} {ms} {a} e h r =
-    let q : map (inRing m (suc p)) (map (backed m) ms) ≡ map (inRing m p) ms = map-map (inRing m (suc p)) (backed m) ms ∙ map-same (from-back m p (omega arith)) (within h r) in
+    let q : map (inRing m (suc p)) (map (backed m) ms) ≡ map (inRing m p) ms = map-map (inRing m (suc p)) (backed m) ms ∙ map-same (λ v w. from-back m p (omega arith) v) (within h r) in
     rw q at (runs-from k (suc p) (omega arith) (length-turn1 a ∙ h) (runs-turn1 h r))
 
 -- ---- a run of a hall, with something before it or behind it, is a run of a ring

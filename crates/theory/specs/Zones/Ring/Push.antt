@@ -84,9 +84,9 @@ Away : ℕ → ℕ → ℕ → ℕ → Type 0
 Away m p j n = (p + n ≡ j) ⊎ (p + n ≡ m + j)
 
 -- one place on it is one place nearer
-away-next : (m p j n : ℕ) → p < m → j < m → Away m p j (suc n) → Away m (wrap m (suc p)) j n
+away-next : (m p j n : ℕ) → j < m → Away m p j (suc n) → Away m (wrap m (suc p)) j n
 unfolding Away
-away-next m p j n h k w = go (decLt (suc p) m) w
+away-next m p j n k w = go (decLt (suc p) m) w
   where
     go : Dec (suc p < m) → Away m p j (suc n) → Away m (wrap m (suc p)) j n
     go (yes l) (inl e) = rw (wrap-lt l) (inl (omega arith))
@@ -95,9 +95,9 @@ away-next m p j n h k w = go (decLt (suc p) m) w
     go (no l) (inr e) = let f : m ≤ suc p = omega arith in rw (wrap-ge f) (inl (omega arith))
 
 -- as far as the rule says
-away-ahead : (m p j : ℕ) → p < m → j < m → Away m p j (ahead m p j)
+away-ahead : (m p j : ℕ) → p < m → Away m p j (ahead m p j)
 unfolding Away ahead
-away-ahead m p j h k = go (decLe p j)
+away-ahead m p j h = go (decLe p j)
   where
     go : Dec (p ≤ j) → Away m p j (wrap m (m + j - p))
     go (yes l) = let f : m ≤ m + j - p = omega arith in rw (wrap-ge f) (inl (omega arith))
@@ -122,7 +122,7 @@ push-on (suc n) a r j p g h e w = go (push-at a p (cell-inside a p r e) g) (λ b
         → (b : Arrangement) × Runs 4 (push a p ++ pushes n (applyAll a (push a p)) (wrap (length a) (suc p))) a b × (cell b j ≡ suc r)
     go (b, s, t) ih =
         let m = runs-length s in
-        let u = ih b (omega (arith, runs-count s)) (omega arith) (pushed-to a b p r e (sym m) t) (rw (← m) (away-next (length a) p j n (cell-inside a p r e) h w)) in
+        let u = ih b (omega (arith, runs-count s)) (omega arith) (pushed-to a b p r e (sym m) t) (rw (← m) (away-next (length a) p j n h w)) in
         (u .0, rw (runs-applied s) (runs-append s (u .1)), u .2)
 
 -- pushing brings a robot to place j
@@ -131,7 +131,7 @@ pub push-to : (a : Arrangement) (r j p : ℕ) → length (order a) < length a �
 unfolding pushTo
 push-to a r j p g h e =
     let s = seek-robot r a p e in
-    push-on (ahead (length a) (seek (suc r) a) j) a r j (seek (suc r) a) g h s (away-ahead (length a) (seek (suc r) a) j (cell-inside a (seek (suc r) a) r s) h)
+    push-on (ahead (length a) (seek (suc r) a) j) a r j (seek (suc r) a) g h s (away-ahead (length a) (seek (suc r) a) j (cell-inside a (seek (suc r) a) r s))
 
 -- where it is there already nothing moves
 pub push-none : (a : Arrangement) (r j : ℕ) → Distinct a → cell a j ≡ suc r → (b : Arrangement) × Runs 4 (pushTo a r j) a b × (cell b j ≡ suc r)

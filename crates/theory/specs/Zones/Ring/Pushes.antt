@@ -13,7 +13,7 @@ use Rattle.spec.specs.Terms.{Runs, Distinct, Named}
 use Rattle.spec.specs.Ring.{push, opened, wrap, ringBehind, entryOpen, turnPlace}
 use Rattle.theory.specs.Basics.Lists.{Each, _&&&_, none, each-append}
 use Rattle.theory.specs.Basics.Tests.{if-true, if-false, eq→eqb, ne→eqb, and-left, and-right}
-use Rattle.theory.specs.Zones.Arrangements.{seek-robot, not-under, not-over}
+use Rattle.theory.specs.Zones.Arrangements.{cell-inside, seek-robot, not-under, not-over}
 use Rattle.theory.specs.Zones.Moves.{runs-length}
 use Rattle.theory.specs.Zones.Hall.Places.{empty-snoc, order-none}
 use Rattle.theory.specs.Zones.Ring.Turning.{turn, turn-add, turn-append, length-turn, turn-back, turn-head}
@@ -55,10 +55,11 @@ trail-view (suc y ∷ w) (_&&&_ n ns) = go (trail-view w ns)
 -- ---- one push
 
 -- the robot on place j is pushed
-pub push-off : (j x : ℕ) (a : Arrangement) → j < length a → length (order a) < length a → cell a j ≡ suc x
+pub push-off : (j x : ℕ) (a : Arrangement) → length (order a) < length a → cell a j ≡ suc x
     → (b : Arrangement) × Runs 4 (push a j) a b × (turn (suc j) b ≡ suc x ∷ pushed (opened j a)) × (length (order (opened j a)) < length (opened j a))
 unfolding pushed order
-push-off j x a h f e =
+push-off j x a f e =
+    let h = cell-inside a j x e in
     let s = push-at a j h f in
     let t : turn j a ≡ suc x ∷ opened j a = turn-at j a h ∙ ap (λ y. y ∷ opened j a) e in
     (s .0, s .1, s .2 ∙ ap pushed t, omega (arith, count-opened j a (suc x) h e, length-opened j a h))
@@ -166,7 +167,7 @@ module _ (j n : ℕ) (a : Arrangement) (h : j < length a) (d : Distinct a) (g : 
 
   -- where j is taken, pushing the robot on it lowers the measure
   lower-on : (x : ℕ) → cell a j ≡ suc x → Early n (turn (suc j) a) → Lower j n a
-  lower-on x e E = go (push-off j x a h g e)
+  lower-on x e E = go (push-off j x a g e)
     where
       w : Arrangement
       w = opened j a
