@@ -17,7 +17,9 @@ const GAP: f64 = 56.0;
 const MARGIN: f64 = 24.0;
 /// Most vertices of a stack or hall beside each other.
 const LANE: usize = 10;
-/// How far a track stays away from a vertex that it passes.
+/// How far a track stays away from the picture's edge, and from a vertex that
+/// it passes.
+const EDGE: f64 = 6.0;
 const CLEARANCE: f64 = RADIUS + 6.0;
 
 pub type Spot = (f64, f64);
@@ -68,7 +70,7 @@ impl Layout {
                 .wrapping_add(1442695040888963407);
             (random >> 33) as usize % limit
         };
-        for _ in 0..(30_000_000 / work).clamp(60, 4000) {
+        for _ in 0..(12_000_000 / work).clamp(60, 4000) {
             let mut other = setting.clone();
             if below(2) == 0 {
                 other.order.swap(below(zones), below(zones));
@@ -186,12 +188,19 @@ impl Layout {
     /// its way.
     pub fn control(&self, edge: (u8, u8)) -> Option<Spot> {
         const BENDS: [f64; 9] = [0.0, 0.16, -0.16, 0.3, -0.3, 0.45, -0.45, 0.65, -0.65];
-        let bends = BENDS.into_iter();
-        let bend = bends.min_by_key(|&bend| self.hits(edge, bend))?;
         let (a, b) = (
             self.spots[usize::from(edge.0)],
             self.spots[usize::from(edge.1)],
         );
+        let is_inside = |bend: &f64| {
+            let control = bent(a, b, *bend);
+            (0..=12).all(|piece| {
+                let (x, y) = curve(a, control, b, f64::from(piece) / 12.0);
+                (EDGE..self.width - EDGE).contains(&x) && (EDGE..self.height - EDGE).contains(&y)
+            })
+        };
+        let bends = BENDS.into_iter().filter(is_inside);
+        let bend = bends.min_by_key(|&bend| self.hits(edge, bend))?;
         (bend != 0.0).then(|| bent(a, b, bend))
     }
 }
