@@ -14,6 +14,9 @@ use crate::words::count;
 const LEAST_WIDTH: f64 = 420.0;
 const LEGEND: f64 = 30.0;
 
+/// More tracks between zones than this are drawn thin.
+const MANY: usize = 150;
+
 /// The picture of a yard, robots on their starts.
 pub fn yard(name: &str, map: &Map, placing: &Placing) -> String {
     picture(name, map, placing, &Layout::new(map), "cart at its start")
@@ -87,8 +90,11 @@ fn draw_tracks(out: &mut String, map: &Map, layout: &Layout) -> fmt::Result {
     let at = |vertex: u8| layout.spots[usize::from(vertex)];
     for zone in &map.zones {
         let (_, line) = of_kind(zone.kind);
-        let is_wide = zone.kind != ZoneKind::Clique || zone.vertices.len() <= 6;
-        let (width, opacity) = if is_wide { (3.0, 0.75) } else { (1.2, 0.45) };
+        let (width, opacity) = match (zone.kind, zone.vertices.len()) {
+            (ZoneKind::Clique, 21..) => (1.2, 0.18),
+            (ZoneKind::Clique, 7..) => (1.2, 0.45),
+            _ => (3.0, 0.75),
+        };
         for (a, b) in zone.kind.inner_edges(&zone.vertices) {
             let (a, b) = (at(a), at(b));
             writeln!(
@@ -98,7 +104,13 @@ fn draw_tracks(out: &mut String, map: &Map, layout: &Layout) -> fmt::Result {
             )?;
         }
     }
-    for edge in outer_edges(map) {
+    let outer = outer_edges(map);
+    let strokes = if outer.len() > MANY {
+        vec![(INK, 1.0, 0.45)]
+    } else {
+        vec![(PAPER, 6.0, 1.0), (INK, 2.5, 1.0)]
+    };
+    for edge in outer {
         let (a, b) = (at(edge.0), at(edge.1));
         let path = match layout.control(edge) {
             Some(control) => format!(
@@ -107,10 +119,10 @@ fn draw_tracks(out: &mut String, map: &Map, layout: &Layout) -> fmt::Result {
             ),
             None => format!("M{:.1} {:.1}L{:.1} {:.1}", a.0, a.1, b.0, b.1),
         };
-        for (colour, width) in [(PAPER, 6.0), (INK, 2.5)] {
+        for (colour, width, opacity) in &strokes {
             writeln!(
                 out,
-                "<path d=\"{path}\" fill=\"none\" stroke=\"{colour}\" stroke-width=\"{width}\"/>"
+                "<path d=\"{path}\" fill=\"none\" stroke=\"{colour}\" stroke-width=\"{width}\" stroke-opacity=\"{opacity}\"/>"
             )?;
         }
     }
