@@ -161,10 +161,11 @@ fn pack(options: &Options) -> Result<Outcome, String> {
     };
     read.map_err(|error| format!("{name}: {error}"))?;
     let text = String::from_utf8(bytes).map_err(|error| {
-        let line = error.as_bytes()[..error.utf8_error().valid_up_to()]
-            .split(|&byte| byte == b'\n')
-            .count();
-        format!("{name}:{line}: expected text in UTF-8")
+        let good = &error.as_bytes()[..error.utf8_error().valid_up_to()];
+        let good = String::from_utf8_lossy(good);
+        let line = good.matches('\n').count() + 1;
+        let column = good.chars().rev().take_while(|&c| c != '\n').count() + 1;
+        format!("{name}:{line}:{column}: expected text in UTF-8")
     })?;
     let yard = text::read(&text).map_err(|error| format!("{name}:{error}"))?;
     let done = folder::write(options.folder(), &yard.files())?;

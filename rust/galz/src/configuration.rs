@@ -15,7 +15,7 @@ pub struct Configuration {
     robots: Vec<u8>,
 }
 
-/// What is wrong with coming in.
+/// Why a robot can't leave or come in.
 pub struct Refused(pub String);
 
 impl Configuration {

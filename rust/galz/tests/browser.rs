@@ -283,6 +283,45 @@ fn yard_a_plays_by_keyboard_and_by_buttons() {
     browser.text("document.getElementById('play').focus()");
     browser.press_space();
     assert!(browser.state().contains(" yes "), "the button plays once");
+    browser.press("Home", "Home", 36);
+    assert_eq!(browser.state(), STATES[0], "a key stops the run");
+
+    // A button that can no longer be pressed doesn't swallow the keys.
+    browser.text("document.getElementById('step').focus()");
+    for state in &STATES[1..] {
+        browser.press_space();
+        assert_eq!(browser.state(), *state);
+    }
+    assert_eq!(
+        browser.text("String(document.getElementById('step').disabled)"),
+        "true"
+    );
+    browser.press_left();
+    assert_eq!(browser.state(), STATES[2]);
+}
+
+/// A yard without carts and moves has a page too.
+#[test]
+fn a_page_without_moves_stays_at_its_start() {
+    let folder = folder("browser-empty");
+    let dir = folder.to_str().expect("a plain path");
+    let text = folder.join("yard.txt");
+    fs::write(&text, "zone 0 hall 0\nplan\n").unwrap();
+    assert_eq!(galz(&["pack", text.to_str().unwrap(), dir]).status, 0);
+    let page = folder.join("run.html");
+    assert_eq!(
+        galz(&["picture", dir, "-o", page.to_str().unwrap()]).status,
+        0
+    );
+    let address = format!("file://{}", fs::canonicalize(&page).unwrap().display());
+    let Some(mut browser) = Browser::open(&folder.join("profile"), &address) else {
+        return;
+    };
+    browser.press_space();
+    browser.press_right();
+    assert_eq!(browser.state(), "0 no ");
+    let moves = browser.text("document.getElementById('moves').textContent");
+    assert_eq!(moves, "There are no moves.");
 }
 
 /// Every round of the largest example, named in the address, against the

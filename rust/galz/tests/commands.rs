@@ -184,13 +184,13 @@ fn misuse_has_status_2() {
 }
 
 #[test]
-fn a_text_that_is_not_utf_8_is_told_with_its_line() {
+fn a_text_that_is_not_utf_8_is_told_with_its_place() {
     let folder = folder("not-utf-8");
     let text = folder.join("yard.txt");
-    fs::write(&text, b"zone 0 hall 0\n# \xff\n").unwrap();
+    fs::write(&text, b"zone 0 hall 0\n# \xc3\xa9 \xff\n").unwrap();
     let printed = galz(&["pack", word(&text), word(&folder)]);
     assert_eq!(printed.status, 2);
-    let expected = format!("galz: {}:2: expected text in UTF-8\n", text.display());
+    let expected = format!("galz: {}:2:5: expected text in UTF-8\n", text.display());
     assert_eq!(printed.err, expected);
 }
 

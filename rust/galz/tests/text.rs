@@ -171,7 +171,7 @@ fn yard_a_has_document_01_s_bytes() {
 
 #[test]
 fn text_may_be_loose() {
-    let loose = "\tzone 0 hall 1 0   # listed from 1\r\n\n  # a comment\ncart 0 start 0 goal 1\r\nplan\nzone 1 hall 2\ntrack 2 0\ntrack 0 2\ntrack 0 1\nstep cart 0 from 0 to 2 behind none\n";
+    let loose = "\u{feff}\tzone 0 hall 1 0   # listed from 1\r\n\n  # a comment\ncart 0 start 0 goal 1\r\nplan\nzone 1 hall 2\ntrack 2 0\ntrack 0 2\ntrack 0 1\nstep cart 0 from 0 to 2 behind none\n";
     let plain = "zone 0 hall 1 0\nzone 1 hall 2\ntrack 0 2\ncart 0 start 0 goal 1\nplan\nstep cart 0 from 0 to 2\n";
     let yard = text::read(loose).unwrap();
     assert_eq!(text::write(&yard), plain);
