@@ -209,13 +209,19 @@ fn no_room(
     let over = zone.vertices.len() - place - 1;
     for (robots, places, side) in [(below, place, "below"), (above, over, "above")] {
         if robots.len() > places {
+            let room = match places {
+                0 => "no place lies".to_string(),
+                _ => format!(
+                    "only {} {}",
+                    count(places, "place"),
+                    verb(places, "lies", "lie")
+                ),
+            };
             return Err(Refused(format!(
-                "{} {} {side} {whom} ({}), {} {} free {side} point {point}",
+                "{} {} {side} {whom} ({}), but {room} {side} point {point}",
                 count(robots.len(), "cart"),
                 verb(robots.len(), "stands", "stand"),
                 named("cart", robots),
-                count(places, "place"),
-                verb(places, "is", "are"),
             )));
         }
     }
