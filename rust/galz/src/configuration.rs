@@ -207,18 +207,18 @@ fn no_room(
 ) -> Result<(), Refused> {
     let point = zone.vertices[place];
     let over = zone.vertices.len() - place - 1;
-    for (robots, places, side) in [(below, place, "below"), (above, over, "above")] {
+    for (robots, places, side) in [(below, place, "before"), (above, over, "after")] {
         if robots.len() > places {
             let room = match places {
-                0 => "no place lies".to_string(),
+                0 => "no place comes".to_string(),
                 _ => format!(
                     "only {} {}",
                     count(places, "place"),
-                    verb(places, "lies", "lie")
+                    verb(places, "comes", "come")
                 ),
             };
             return Err(Refused(format!(
-                "{} {} {side} {whom} ({}), but {room} {side} point {point}",
+                "{} {} {side} {whom} in listed order ({}), but {room} {side} point {point}",
                 count(robots.len(), "cart"),
                 verb(robots.len(), "stands", "stand"),
                 named("cart", robots),

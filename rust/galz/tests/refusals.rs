@@ -363,11 +363,11 @@ fn plan_cases() -> Vec<Case> {
         ),
         judged(
             files("zone 0 hall 0 1 2 3\nzone 1 hall 4\ntrack 1 4\ncart 0 start 0 goal 0\ncart 1 start 1 goal 1\ncart 2 start 3 goal 4\nplan\nstep cart 2 from 1 to 4\n"),
-            "refused 38 0\nstep 0: cart 2 can't leave hall 0 at point 1: two carts stand below cart 2 (carts 0 and 1), but only one place lies below point 1\n",
+            "refused 38 0\nstep 0: cart 2 can't leave hall 0 at point 1: two carts stand before cart 2 in listed order (carts 0 and 1), but only one place comes before point 1\n",
         ),
         judged(
             files("zone 0 hall 2 0 1\nzone 1 hall 3\ntrack 1 3\ncart 0 start 2 goal 3\ncart 1 start 1 goal 1\nplan\nstep cart 0 from 1 to 3\n"),
-            "refused 38 0\nstep 0: cart 0 can't leave hall 0 at point 1: one cart stands above cart 0 (cart 1), but no place lies above point 1\n",
+            "refused 38 0\nstep 0: cart 0 can't leave hall 0 at point 1: one cart stands after cart 0 in listed order (cart 1), but no place comes after point 1\n",
         ),
         judged(
             files("zone 0 ring 0 1 2\nzone 1 hall 3\ntrack 1 3\ncart 0 start 0 goal 3\ncart 1 start 1 goal 1\ncart 2 start 2 goal 2\nplan\nstep cart 0 from 1 to 3\n"),
@@ -383,11 +383,11 @@ fn plan_cases() -> Vec<Case> {
         ),
         judged(
             files("zone 0 hall 0\nzone 1 hall 1 2 3\ntrack 0 1\ncart 0 start 0 goal 1\ncart 1 start 1 goal 2\nplan\nstep cart 0 from 0 to 1 behind 1\n"),
-            "refused 39 0\nstep 0: cart 0 can't enter hall 1 at point 1: with cart 1 behind it, one cart stands below it (cart 1), but no place lies below point 1\n",
+            "refused 39 0\nstep 0: cart 0 can't enter hall 1 at point 1: with cart 1 behind it, one cart stands before it in listed order (cart 1), but no place comes before point 1\n",
         ),
         judged(
             files("zone 0 hall 0\nzone 1 hall 1 2 3\ntrack 0 3\ncart 0 start 0 goal 1\ncart 1 start 1 goal 2\nplan\nstep cart 0 from 0 to 3\n"),
-            "refused 39 0\nstep 0: cart 0 can't enter hall 1 at point 3: with no cart behind it, one cart stands above it (cart 1), but no place lies above point 3\n",
+            "refused 39 0\nstep 0: cart 0 can't enter hall 1 at point 3: with no cart behind it, one cart stands after it in listed order (cart 1), but no place comes after point 3\n",
         ),
         judged(
             files("zone 0 ring 0 1 2 3\nzone 1 hall 4\ntrack 0 4\ncart 0 start 0 goal 1\ncart 1 start 4 goal 0\nplan\nstep cart 1 from 4 to 0\n"),
