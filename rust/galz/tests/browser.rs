@@ -1,6 +1,6 @@
 //! The page in a real browser: Chromium without a window, driven over its
-//! debugging pipe with keys and clicks. Without Chromium nothing is tried,
-//! and the tests say so.
+//! debugging pipe with keys and clicks. Without Chromium the tests are
+//! ignored.
 #![forbid(unsafe_code)]
 
 mod help;
@@ -27,13 +27,8 @@ struct Browser {
 }
 
 impl Browser {
-    /// Shows a page, or gives nothing if there is no Chromium.
-    fn open(profile: &Path, page: &str) -> Option<Browser> {
-        let found = Command::new("chromium").arg("--version").output();
-        if !found.is_ok_and(|output| output.status.success()) {
-            eprintln!("NOT TRIED: there is no chromium (apt-get install chromium)");
-            return None;
-        }
+    /// Shows a page.
+    fn open(profile: &Path, page: &str) -> Browser {
         // The pipe's two ends are to be descriptors 3 and 4.
         let script = "exec chromium --headless --no-sandbox --disable-gpu --no-first-run \
             --disable-background-networking --window-size=1280,900 \
@@ -76,7 +71,7 @@ impl Browser {
         browser.session = text_of(&attached, "\"sessionId\":\"");
         browser.call("Page.enable", "{}");
         browser.show(page);
-        Some(browser)
+        browser
     }
 
     /// Calls a method of the browser, and gives its answer.
@@ -219,11 +214,10 @@ fn page_of(example: &str) -> (PathBuf, String, String) {
 }
 
 #[test]
+#[cfg_attr(not(chromium), ignore = "there is no chromium")]
 fn yard_a_plays_by_keyboard_and_by_buttons() {
     let (profile, page, _) = page_of("yard-a");
-    let Some(mut browser) = Browser::open(&profile, &page) else {
-        return;
-    };
+    let mut browser = Browser::open(&profile, &page);
     const STATES: [&str; 4] = ["0 no 1,2", "1 no 0,1", "2 no 3,0", "3 no 4,3"];
     assert_eq!(browser.state(), STATES[0]);
     for state in &STATES[1..] {
@@ -302,6 +296,7 @@ fn yard_a_plays_by_keyboard_and_by_buttons() {
 
 /// A yard without carts and moves has a page too.
 #[test]
+#[cfg_attr(not(chromium), ignore = "there is no chromium")]
 fn a_page_without_moves_stays_at_its_start() {
     let folder = folder("browser-empty");
     let dir = folder.to_str().expect("a plain path");
@@ -314,9 +309,7 @@ fn a_page_without_moves_stays_at_its_start() {
         0
     );
     let address = format!("file://{}", fs::canonicalize(&page).unwrap().display());
-    let Some(mut browser) = Browser::open(&folder.join("profile"), &address) else {
-        return;
-    };
+    let mut browser = Browser::open(&folder.join("profile"), &address);
     browser.press_space();
     browser.press_right();
     assert_eq!(browser.state(), "0 no ");
@@ -327,11 +320,10 @@ fn a_page_without_moves_stays_at_its_start() {
 /// Every round of the largest example, named in the address, against the
 /// listing's moves.
 #[test]
+#[cfg_attr(not(chromium), ignore = "there is no chromium")]
 fn each_round_shows_the_moves_up_to_it() {
     let (profile, page, listed) = page_of("cold-store");
-    let Some(mut browser) = Browser::open(&profile, &format!("{page}#round=4")) else {
-        return;
-    };
+    let mut browser = Browser::open(&profile, &format!("{page}#round=4"));
     assert!(
         browser.state().starts_with("4 no "),
         "the address is read at once"
