@@ -46,7 +46,7 @@ impl Outcome {
     }
 }
 
-/// Runs a command. A message stands for misuse.
+/// Runs a command.
 pub fn run(words: &[&str]) -> Outcome {
     let Some((&command, rest)) = words.split_first() else {
         return Outcome {

@@ -151,7 +151,7 @@ fn a_page_holds_the_moves_and_rounds_and_needs_nothing_else() {
         let answer = Service::Resolve.call(&files, ROOM);
         let page = picture::page("<b>&\"yard\"", &files);
         if answer.number != 0 {
-            let (service, refused) = page.err().expect("a refused plan has no page");
+            let (service, refused) = page.expect_err("a refused plan has no page");
             assert_eq!((service, refused.number), (Service::Resolve, answer.number));
             continue;
         }
