@@ -10,7 +10,7 @@ mod proved;
 use std::collections::BTreeMap;
 use std::panic;
 use std::process::ExitCode;
-use std::time::Instant;
+use std::time::{Duration, Instant};
 
 use cases::{Case, Generator, Outcome, Service, REFERENCE};
 
@@ -18,8 +18,8 @@ use proved::PROVED;
 
 const USAGE: &str = "compare --seed S --count N [--services draw,rounds]
 compare replay FILE";
-/// Cases from one line of progress to the next.
-const STRIDE: usize = 50_000;
+/// From one line of progress to the next.
+const PACE: Duration = Duration::from_secs(10);
 
 fn main() -> ExitCode {
     let arguments: Vec<String> = std::env::args().skip(1).collect();
@@ -67,6 +67,7 @@ fn run(seed: &str, count: &str, services: &[Service]) -> Result<(), String> {
     let mut generator = Generator::for_services(seed, services);
     let mut tally: BTreeMap<(Service, u32), usize> = BTreeMap::new();
     let start = Instant::now();
+    let mut told = start;
     for index in 1..=count {
         let case = generator.next_case();
         let outcome = check(&case).map_err(|(fault, case)| {
@@ -76,11 +77,13 @@ fn run(seed: &str, count: &str, services: &[Service]) -> Result<(), String> {
         *tally
             .entry((case.service, outcome.answer.number))
             .or_default() += 1;
-        if index % STRIDE == 0 || index == count {
-            let seconds = start.elapsed().as_secs_f64();
-            println!("{index} of {count} cases agree, {seconds:.1} s");
+        if told.elapsed() >= PACE {
+            told = Instant::now();
+            tell(index, count, start.elapsed());
         }
     }
+    let seconds = start.elapsed().as_secs_f64();
+    println!("{count} of {count} cases agree, {seconds:.1} s");
     for &service in services {
         let of_service = || tally.iter().filter(|((of, _), _)| *of == service);
         let calls: usize = of_service().map(|(_, times)| times).sum();
@@ -90,6 +93,16 @@ fn run(seed: &str, count: &str, services: &[Service]) -> Result<(), String> {
         }
     }
     Ok(())
+}
+
+/// A line of progress, beside what the comparison prints.
+fn tell(index: usize, count: usize, elapsed: Duration) {
+    let seconds = elapsed.as_secs_f64();
+    let left = seconds / index as f64 * (count - index) as f64;
+    let percent = 100.0 * index as f64 / count as f64;
+    eprintln!(
+        "{index} of {count} cases agree ({percent:.0}%), {seconds:.0} s, about {left:.0} s to go"
+    );
 }
 
 /// Writes a case to a file that `replay` reads.
