@@ -19,48 +19,14 @@
 #include <stdio.h>
 #include <stdlib.h>
 #include <string.h>
-#include <sys/mman.h>
-#include <unistd.h>
 
 #include "blocks.h"
 #include "calls.h"
+#include "pages.h"
 
 enum { FILES = 3, SLICES = 4, DIRT = 0xa5 };
 
 enum lending { HEAP, ENDS, STARTS };
-
-/* Pages for one slice, a page that can't be touched before and after. */
-struct pages {
-    uint8_t *first;
-    size_t length;
-};
-
-static size_t page;
-
-/* Takes pages that hold so many bytes. */
-static void reserve(struct pages *pages, size_t length) {
-    size_t needed = (length + page - 1) / page * page;
-    if (needed < page)
-        needed = page;
-    if (pages->first != NULL && pages->length >= needed)
-        return;
-    if (pages->first != NULL)
-        munmap(pages->first - page, pages->length + 2 * page);
-    uint8_t *mapped = mmap(NULL, needed + 2 * page, PROT_NONE, MAP_PRIVATE | MAP_ANONYMOUS, -1, 0);
-    if (mapped == MAP_FAILED) {
-        perror("mmap");
-        exit(2);
-    }
-    pages->first = mapped + page;
-    pages->length = needed;
-}
-
-static void protect(struct pages *pages, int protection) {
-    if (mprotect(pages->first, pages->length, protection) != 0) {
-        perror("mprotect");
-        exit(2);
-    }
-}
 
 /* Somewhere for so many bytes. */
 static uint8_t *lend(enum lending lending, struct pages *pages, size_t length) {
@@ -68,7 +34,7 @@ static uint8_t *lend(enum lending lending, struct pages *pages, size_t length) {
         return checked(malloc(length));
     reserve(pages, length);
     protect(pages, PROT_READ | PROT_WRITE);
-    return lending == STARTS ? pages->first : pages->first + pages->length - length;
+    return lending == STARTS ? pages->first : end_of(pages, length);
 }
 
 static void copy(uint8_t *to, const uint8_t *from, size_t length) {
@@ -177,7 +143,6 @@ static int lie(enum lending lending) {
 }
 
 int main(int count, char **words) {
-    page = (size_t)sysconf(_SC_PAGESIZE);
     const char *word = count > 1 ? words[1] : "";
     const char *second = count > 2 ? words[2] : "";
     if (strcmp(word, "heap") == 0)

@@ -8,8 +8,8 @@
 //!   answers, as bytes.
 //! - `cases lengths --seed S --step N` writes, likewise, a small case of a
 //!   service that writes for each N-th length of the buffer from 0 to 66,000.
-//! - `cases inputs --seed S --count N FOLDER` writes small cases as the files
-//!   that `host/fuzz` starts from.
+//! - `cases inputs --seed S --count N FOLDER` writes cases of up to 16,384
+//!   bytes as the files that `host/fuzz` starts from.
 
 use std::collections::BTreeMap;
 use std::io::{self, BufWriter, Write};
@@ -28,6 +28,8 @@ cases lengths --seed S --step N
 cases inputs --seed S --count N FOLDER";
 /// The longest buffer of `lengths`.
 const LONGEST: usize = 66_000;
+/// The longest file of `inputs`.
+const LONGEST_INPUT: usize = 16_384;
 
 fn main() -> ExitCode {
     let arguments: Vec<String> = std::env::args().skip(1).collect();
@@ -144,11 +146,15 @@ fn write_calls(cases: impl Iterator<Item = Case>) -> Result<(), String> {
 }
 
 fn inputs((seed, count): (u64, usize), folder: &str) -> Result<(), String> {
-    let mut generator = Generator::small(seed);
+    let mut generator = Generator::new(seed);
+    let mut fitting_input = || loop {
+        let input = fuzz_input(&generator.next_case());
+        if let Some(input) = input.filter(|input| input.len() <= LONGEST_INPUT) {
+            return input;
+        }
+    };
     for index in 0..count {
-        let Some(input) = fuzz_input(&generator.next_case()) else {
-            continue;
-        };
+        let input = fitting_input();
         let path = format!("{folder}/{seed}-{index}");
         std::fs::write(&path, input).map_err(|error| format!("{path}: {error}"))?;
     }
