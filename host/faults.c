@@ -12,10 +12,12 @@
  * tool must report:
  *
  *   faults past    the host reads the byte after a heap block
+ *   faults overflow    the host adds past the largest int
  *   faults lie heap|ends    the map's length is told one block too long, so
  *                  that the library reads past the slice
  */
 #define _GNU_SOURCE
+#include <limits.h>
 #include <stdio.h>
 #include <stdlib.h>
 #include <string.h>
@@ -116,13 +118,18 @@ static int run(enum lending lending) {
 
 /* Reads the byte after a heap block. */
 static int read_past(void) {
-    volatile uint8_t *block = checked(malloc(BLOCK));
-    for (int i = 0; i < BLOCK; i++)
-        block[i] = DIRT;
-    volatile size_t past = BLOCK;
-    volatile uint8_t byte = block[past];
-    (void)byte;
-    free((void *)block);
+    volatile size_t length = BLOCK;
+    uint8_t *block = checked(malloc(length));
+    memset(block, DIRT, length);
+    int byte = ((volatile uint8_t *)block)[length];
+    free(block);
+    return byte < 0;
+}
+
+/* Adds past the largest int. */
+static int overflow(void) {
+    volatile int most = INT_MAX;
+    most = most + 1;
     return 0;
 }
 
@@ -153,10 +160,13 @@ int main(int count, char **words) {
         return run(STARTS);
     if (strcmp(word, "past") == 0)
         return read_past();
+    if (strcmp(word, "overflow") == 0)
+        return overflow();
     if (strcmp(word, "lie") == 0 && strcmp(second, "heap") == 0)
         return lie(HEAP);
     if (strcmp(word, "lie") == 0 && strcmp(second, "ends") == 0)
         return lie(ENDS);
-    fprintf(stderr, "faults heap|ends|starts < CALLS\nfaults past\nfaults lie heap|ends\n");
+    fprintf(stderr,
+            "faults heap|ends|starts < CALLS\nfaults past|overflow\nfaults lie heap|ends\n");
     return 2;
 }
