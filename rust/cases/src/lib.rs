@@ -2,6 +2,7 @@
 //! Cases for the four services, the laws they must keep, and the comparison
 //! of implementations.
 
+mod calls;
 mod case;
 mod changes;
 mod generator;
@@ -9,6 +10,7 @@ mod implementation;
 mod laws;
 mod scene;
 
+pub use calls::{call, fuzz_input};
 pub use case::{Case, Service};
 pub use generator::Generator;
 pub use implementation::{implementations, Implementation, REFERENCE};
