@@ -2,7 +2,10 @@ pub mod Fault
 pub mod Bytes
 pub mod Heads
 pub mod Table
+pub mod Vertices
 pub mod Zones
+pub mod Reading
+pub mod Found
 pub mod Edges
 pub mod Kinds
 pub mod Map

@@ -1,13 +1,14 @@
 -- The whole map: what was read is the map that the definition gives.
 use Prim.Native.Nat.{ℕ, _+_, _-_, _*_, _/_, _≤_, _<_}
 use mathlib.Core.Path.{_≡_, refl, ap, sym, _∙_, subst}
-use mathlib.Core.Bool.{Bool, true, false}
+use mathlib.Core.Bool.{Bool, true, false, not}
 use mathlib.Core.List.{List, []}
 use lib.ListN.{length, getD, take, drop, replicate}
+use lib.Dec.{eqb}
 use native.Mathlib.Omega.{arith}
-use Rattle.spec.specs.Outcome.{Outcome, ok, refuse, _>>=_, _>>_, indexOf}
+use Rattle.spec.specs.Outcome.{Outcome, ok, refuse, _>>=_, _>>_, check, member, indexOf, below}
 use Rattle.spec.specs.Wire.{payloadOf}
-use Rattle.spec.specs.Layout.{Map, Edge, countsOf, zonesOf, edgesOf, kindsFrom, mapOf, zoneFrom, zoneOf, zoneAt}
+use Rattle.spec.specs.Layout.{Map, Edge, readZones, listed, countsOf, zonesOf, edgesOf, kindsFrom, mapOf, zoneFrom, zoneOf, zoneAt}
 use Rattle.theory.specs.Basics.Lists.{getD-uniform}
 use Rattle.wire.specs.declared.Checked.{Checked}
 use Rattle.wire.specs.declared.Checked.the-variants.{Payload}
@@ -22,7 +23,8 @@ use Rattle.layout.specs.declared.MapRead.{MapRead}
 use Rattle.layout.specs.Fault.{answered, soundOf, sound-none, not-both, given, refused, handed, relayed, handed-on, relayed-on}
 use Rattle.layout.specs.Bytes.{held, held-payload}
 use Rattle.layout.specs.Heads.{countsIn}
-use Rattle.layout.specs.Zones.{ZonesFound, headsOf, zonesIn, zonesRead, zones-length, zones-at, placeFrom}
+use Rattle.layout.specs.Zones.{zonesIn, zones-length, zones-at, placeFrom}
+use Rattle.layout.specs.Found.{ZonesAre, headsOf, zonesRead, zones-are, cover-is}
 use Rattle.layout.specs.Edges.{edgesAt, EdgesFound}
 use Rattle.layout.specs.Kinds.{Ready, ready, zone-some}
 
@@ -82,37 +84,53 @@ pub record MapIs (outcome : Outcome Map) (r : MapRead) (rows : List (List ℕ)) 
 abbrev pub mapAt : ℕ → ZonesRead → ℕ → List Edge → Map
 mapAt n t z es = record { size = n; zones = zonesIn (headsOf t) (t .listed) z; edges = es }
 
--- edges and kinds, after the zones
+-- does every vertex stand in a zone
+abbrev pub coverOf : ℕ → ZonesRead → ℕ → Bool
+coverOf n t z = below (λ v. member v (listed (zonesIn (headsOf t) (t .listed) z))) n
+
+-- the test that every vertex has a zone, edges and kinds, after the zones
 unfoldable pub restOf : List ℕ → ℕ → ZonesRead → ℕ → Outcome Map
-restOf p n t z = edgesOf n p (t .next) >>= (λ es. kindsFrom (mapAt n t z es) 0 (zonesIn (headsOf t) (t .listed) z) >> ok (mapAt n t z es))
+restOf p n t z = check (coverOf n t z) 17 (t .next) >> edgesOf n p (t .next) >>= (λ es. kindsFrom (mapAt n t z es) 0 (zonesIn (headsOf t) (t .listed) z) >> ok (mapAt n t z es))
+
+-- a value that is tested and handed on
+tested : {A B C : Type 0} (b : Bool) (r o : ℕ) (a : A) (g : A → Outcome C) (e : Outcome B) (k : B → Outcome C) → g a ≡ (e >>= k)
+    → (check b r o >> ok a >>= g) ≡ (check b r o >> e >>= k)
+unfolding check _>>_ _>>=_
+tested true r o a g e k h = h
+tested false r o a g e k h = refl
 
 module _ (p : List ℕ) (c : CountsRead) (counts : countsOf p ≡ answered (c .fault) (countsIn c)) where
   pub map-counts : soundOf (c .fault) ≡ false → (b : Map) → mapOf p ≡ answered (c .fault) b
   unfolding mapOf
   map-counts s b = relayed (countsOf p) (c .fault) (countsIn c) _ b counts s
 
-  module _ (s : soundOf (c .fault) ≡ true) (t : ZonesRead) (zones : ZonesFound p (c .vertices) (c .zones) t) where
+  module _ (s : soundOf (c .fault) ≡ true) (t : ZonesRead) (zones : ZonesAre p (c .vertices) (c .zones) t) where
     pub map-zones : soundOf (t .fault) ≡ false → (b : Map) → mapOf p ≡ answered (t .fault) b
-    unfolding mapOf
-    map-zones q b = handed (countsOf p) (c .fault) (countsIn c) _ counts s ∙ relayed (zonesOf p (countsIn c)) (t .fault) (zonesRead t (c .zones)) _ b (zones .answer) q
+    unfolding mapOf zonesOf
+    map-zones q b = handed (countsOf p) (c .fault) (countsIn c) _ counts s
+        ∙ relayed (zonesOf p (countsIn c)) (t .fault) (zonesRead t (c .zones)) _ b
+        (relayed (readZones (c .vertices) p (c .zones) 2 [] []) (t .fault) (zonesRead t (c .zones)) _ (zonesRead t (c .zones)) (zones .answer) q) q
 
     pub map-rest : soundOf (t .fault) ≡ true → mapOf p ≡ restOf p (c .vertices) t (c .zones)
-    unfolding mapOf restOf
-    map-rest q = handed (countsOf p) (c .fault) (countsIn c) _ counts s ∙ handed (zonesOf p (countsIn c)) (t .fault) (zonesRead t (c .zones)) _ (zones .answer) q
+    unfolding mapOf zonesOf restOf
+    map-rest q =
+        let w : zonesOf p (countsIn c) ≡ (check (coverOf (c .vertices) t (c .zones)) 17 (t .next) >> ok (zonesRead t (c .zones))) =
+        handed (readZones (c .vertices) p (c .zones) 2 [] []) (t .fault) (zonesRead t (c .zones)) _ (zones .answer) q in
+        handed (countsOf p) (c .fault) (countsIn c) _ counts s ∙ rw w (tested (coverOf (c .vertices) t (c .zones)) 17 (t .next) (zonesRead t (c .zones)) _ _ _ refl)
 
-module _ (p : List ℕ) (n : ℕ) (t : ZonesRead) (z : ℕ) (f : MapFault) (es : List Edge) (edges : edgesOf n p (t .next) ≡ answered f es) where
+module _ (p : List ℕ) (n : ℕ) (t : ZonesRead) (z : ℕ) (f : MapFault) (es : List Edge) (edges : (check (coverOf n t z) 17 (t .next) >> edgesOf n p (t .next)) ≡ answered f es) where
   pub rest-edges : soundOf f ≡ false → (b : Map) → restOf p n t z ≡ answered f b
   unfolding restOf
-  rest-edges s b = relayed (edgesOf n p (t .next)) f es _ b edges s
+  rest-edges s b = relayed (check (coverOf n t z) 17 (t .next) >> edgesOf n p (t .next)) f es _ b edges s
 
   module _ (s : soundOf f ≡ true) (g : MapFault) (kinds : kindsFrom (mapAt n t z es) 0 (zonesIn (headsOf t) (t .listed) z) ≡ answered g tt) where
     pub rest-kinds : soundOf g ≡ false → (b : Map) → restOf p n t z ≡ answered g b
     unfolding restOf
-    rest-kinds q b = handed (edgesOf n p (t .next)) f es _ edges s ∙ relayed-on (kindsFrom (mapAt n t z es) 0 (zonesIn (headsOf t) (t .listed) z)) g tt _ b kinds q
+    rest-kinds q b = handed (check (coverOf n t z) 17 (t .next) >> edgesOf n p (t .next)) f es _ edges s ∙ relayed-on (kindsFrom (mapAt n t z es) 0 (zonesIn (headsOf t) (t .listed) z)) g tt _ b kinds q
 
     pub rest-good : soundOf g ≡ true → restOf p n t z ≡ ok (mapAt n t z es)
     unfolding restOf
-    rest-good q = handed (edgesOf n p (t .next)) f es _ edges s ∙ handed-on (kindsFrom (mapAt n t z es) 0 (zonesIn (headsOf t) (t .listed) z)) g tt _ kinds q
+    rest-good q = handed (check (coverOf n t z) 17 (t .next) >> edgesOf n p (t .next)) f es _ edges s ∙ handed-on (kindsFrom (mapAt n t z es) 0 (zonesIn (headsOf t) (t .listed) z)) g tt _ kinds q
 
 -- the edges that were read
 abbrev pub edgesIn : List ℕ → ZonesRead → List Edge
@@ -124,15 +142,18 @@ pub record RestIs (file : List ℕ) (m n : ℕ) (t : ZonesRead) (z : ℕ) (rows 
   pub entered : soundOf f ≡ true → rows ≡ rowsOf (edgesIn file t)
   pub shown : soundOf f ≡ true → Shows rows (edgesIn file t)
 
-module _ (file : List ℕ) (m n : ℕ) (t : ZonesRead) (z : ℕ) (small : n ≤ 128) (few : z ≤ 64) (found : ZonesFound (held file m) n z t) (zoned : soundOf (t .fault) ≡ true)
-    (rows : List (List ℕ)) (f : MapFault) (edges : EdgesFound file m n (t .next) blank rows f) where
+module _ (file : List ℕ) (m n : ℕ) (t : ZonesRead) (z : ℕ) (small : n ≤ 128) (few : z ≤ 64) (found : ZonesAre (held file m) n z t) (zoned : soundOf (t .fault) ≡ true)
+    (covered : Bool) (cover : covered ≡ below (λ v. not (eqb (getD (t .zone) v 0) 255)) n) (rows : List (List ℕ)) (f : MapFault) (edges : EdgesFound file m n covered (t .next) blank rows f) where
+  edges-are : (check (coverOf n t z) 17 (t .next) >> edgesOf n (held file m) (t .next)) ≡ answered f (edgesIn file t)
+  edges-are = ap (λ (b : Bool). check b 17 (t .next) >> edgesOf n (held file m) (t .next)) (cover-is (held file m) n z small t found zoned ∙ sym cover) ∙ edges .answer
+
   pub rest-refused : soundOf f ≡ false → RestIs file m n t z rows f
-  rest-refused s = record { answer = rest-edges (held file m) n t z f (edgesIn file t) (edges .answer) s (mapAt n t z (edgesIn file t)); entered = λ q. not-both q s; shown = λ q. not-both q s }
+  rest-refused s = record { answer = rest-edges (held file m) n t z f (edgesIn file t) edges-are s (mapAt n t z (edgesIn file t)); entered = λ q. not-both q s; shown = λ q. not-both q s }
 
   module _ (s : soundOf f ≡ true) where
     -- the zones may be tested
     pub rest-ready : Ready rows (mapAt n t z (edgesIn file t)) (headsOf t) (t .listed) (t .zone) z
-    rest-ready = ready (held file m) n z small few (headsOf t) (t .listed) (t .zone) (t .place) (t .next) (found .read zoned) (found .tables zoned) rows (wordAt file (t .next)) (t .next + 2)
+    rest-ready = ready (held file m) n z small few (headsOf t) (t .listed) (t .zone) (t .place) (t .next) (zones-are (held file m) n z small t found zoned) (found .tables zoned) rows (wordAt file (t .next)) (t .next + 2)
         (edgesIn file t) (edges .read s) (edges .shown s shows-none)
 
     module _ (g : MapFault) (kinds : kindsFrom (mapAt n t z (edgesIn file t)) 0 (zonesIn (headsOf t) (t .listed) z) ≡ answered g tt) where
@@ -141,12 +162,12 @@ module _ (file : List ℕ) (m n : ℕ) (t : ZonesRead) (z : ℕ) (small : n ≤ 
         where
           go : (b : Bool) → soundOf g ≡ b → RestIs file m n t z rows g
           go true q = record {
-            answer = rest-good (held file m) n t z f (edgesIn file t) (edges .answer) s g kinds q ∙ ap (λ (x : MapFault). answered x (mapAt n t z (edgesIn file t))) (sym (sound-none g q));
+            answer = rest-good (held file m) n t z f (edgesIn file t) edges-are s g kinds q ∙ ap (λ (x : MapFault). answered x (mapAt n t z (edgesIn file t))) (sym (sound-none g q));
             entered = λ _. edges .entered s;
             shown = λ _. edges .shown s shows-none;
           }
           go false q = record {
-            answer = rest-kinds (held file m) n t z f (edgesIn file t) (edges .answer) s g kinds q (mapAt n t z (edgesIn file t));
+            answer = rest-kinds (held file m) n t z f (edgesIn file t) edges-are s g kinds q (mapAt n t z (edgesIn file t));
             entered = λ w. not-both w q;
             shown = λ w. not-both w q;
           }
@@ -179,7 +200,7 @@ made n z t = record {
   place = t .place;
 }
 
-made-held : (p : List ℕ) (n z : ℕ) (t : ZonesRead) (es : List Edge) → n ≤ 128 → z ≤ 64 → ZonesFound p n z t → soundOf (t .fault) ≡ true → MapHeld (made n z t) (mapAt n t z es)
+made-held : (p : List ℕ) (n z : ℕ) (t : ZonesRead) (es : List Edge) → n ≤ 128 → z ≤ 64 → ZonesAre p n z t → soundOf (t .fault) ≡ true → MapHeld (made n z t) (mapAt n t z es)
 unfolding zoneOf zoneAt placeFrom
 made-held p n z t es small few found zoned = record {
   size = refl;
@@ -187,7 +208,7 @@ made-held p n z t es small few found zoned = record {
   count = sym (zones-length (headsOf t) (t .listed) z);
   few = few;
   zone-at = λ j l. zones-at (headsOf t) (t .listed) z j l;
-  some = λ j l. zone-some p n z small few (headsOf t) (t .listed) (t .zone) (t .place) (t .next) (found .read zoned) (found .tables zoned) j l;
+  some = λ j l. zone-some p n z small few (headsOf t) (t .listed) (t .zone) (t .place) (t .next) (zones-are p n z small t found zoned) (found .tables zoned) j l;
   inside = found .tables zoned .inside;
   zone-of = found .tables zoned .zoned;
   place-of = found .tables zoned .placed;
@@ -200,7 +221,7 @@ made-held p n z t es small few found zoned = record {
 }
 
 -- the outcome of an accepted map
-pub made-is : (file : List ℕ) (m n z : ℕ) (t : ZonesRead) → n ≤ 128 → z ≤ 64 → ZonesFound (held file m) n z t → soundOf (t .fault) ≡ true
+pub made-is : (file : List ℕ) (m n z : ℕ) (t : ZonesRead) → n ≤ 128 → z ≤ 64 → ZonesAre (held file m) n z t → soundOf (t .fault) ≡ true
     → (outcome : Outcome Map) → outcome ≡ restOf (held file m) n t z → (rows : List (List ℕ)) (f : MapFault) → RestIs file m n t z rows f → soundOf f ≡ true → LayoutIs outcome (made n z t) rows
 made-is file m n z t small few found zoned outcome e rows f rest s =
     let x : outcome ≡ ok (mapAt n t z (edgesIn file t)) = e ∙ given (restOf (held file m) n t z) f (mapAt n t z (edgesIn file t)) (rest .answer) s in
