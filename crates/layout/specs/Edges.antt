@@ -8,13 +8,13 @@ use lib.Dec.{eqb, ltb, leb}
 use borrow.Author.Tests.{lt-ltb, le-ltb, le-leb, lt-leb, eq-eqb, ne-eqb, ltb-true, ltb-false}
 use native.Mathlib.Numerals.{add-one}
 use native.Mathlib.Omega.{arith}
-use Rattle.spec.specs.Outcome.{ok, refuse, _>>=_, _>>_, check, _&&_}
+use Rattle.spec.specs.Outcome.{Outcome, ok, refuse, _>>=_, _>>_, check, _&&_}
 use Rattle.spec.specs.Layout as layout
 use Rattle.spec.specs.Layout.{Edge, readEdges, edgesOf}
 use Rattle.wire.specs.Payload.{placeOf, wordAt}
 use Rattle.adjacency.specs.Rows.{join, joinAll, rows-snoc, Shows, shows-more, both}
 use Rattle.layout.specs.declared.MapFault.{MapFault}
-use Rattle.layout.specs.declared.MapFault.the-variants.{None, Short, Range, Listing}
+use Rattle.layout.specs.declared.MapFault.the-variants.{None, Short, Range}
 use Rattle.layout.specs.Fault.{answered, soundOf, not-both, given, handed, relayed}
 use Rattle.layout.specs.Bytes.{held, held-size, no-byte, a-byte, no-word, a-word}
 
@@ -178,20 +178,20 @@ edges-refused file m n e from before rows f s w = record { answer = w; entered =
 
 -- ---- the count before, the end behind
 
-module _ (covered there : Bool) (o : ℕ) where
-  -- some vertex is in no zone
-  pub count-uncovered : covered ≡ false → CountAt covered there o (Listing o)
-  unfolding check _>>_
-  count-uncovered h = record { answer = λ file m e. rw h; passed = λ t. not-both t refl }
+-- some vertex is in no zone, whatever comes after
+pub uncovered : {A : Type 0} (covered : Bool) (o : ℕ) (w : Outcome A) → covered ≡ false → (check covered 17 o >> w) ≡ refuse 17 o
+unfolding check _>>_
+uncovered covered o w h = rw h
 
-  -- the payload ends before the count's second byte
-  pub count-cut : covered ≡ true → there ≡ false → CountAt covered there o (Short o)
+-- every vertex has a zone: the count's bytes are not there, or are
+module _ (covered there : Bool) (o : ℕ) (all : covered ≡ true) (file : List ℕ) (m : ℕ) (e : there ≡ ltb (o + 1) m) where
+  pub count-cut : there ≡ false → (check covered 17 o >> layout.wordAt 15 (held file m) o) ≡ refuse 15 o
   unfolding check _>>_
-  count-cut h w = record { answer = λ file m e. rw h (no-word file m 15 o (ltb-false (o + 1) m (sym e ∙ w))); passed = λ t. not-both t refl }
+  count-cut w = rw all (no-word file m 15 o (ltb-false (o + 1) m (sym e ∙ w)))
 
-  pub count-open : covered ≡ true → there ≡ true → CountAt covered there o None
+  pub count-read : there ≡ true → (check covered 17 o >> layout.wordAt 15 (held file m) o) ≡ ok (wordAt file o)
   unfolding check _>>_
-  count-open h w = record { answer = λ file m e. rw h (a-word file m 15 o (ltb-true (o + 1) m (sym e ∙ w))); passed = λ t. (h, w) }
+  count-read w = rw all (a-word file m 15 o (ltb-true (o + 1) m (sym e ∙ w)))
 
 -- a refusal before the count is read is that of the edges
 early : (n : ℕ) (p : List ℕ) (covered : Bool) (o : ℕ) (f : MapFault) (x : ℕ) (es : List Edge) → soundOf f ≡ false → (check covered 17 o >> layout.wordAt 15 p o) ≡ answered f x

@@ -1,3 +1,4 @@
+pub mod Chain
 pub mod Fault
 pub mod Bytes
 pub mod Heads
