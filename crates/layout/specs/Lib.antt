@@ -9,6 +9,7 @@ pub mod Reading
 pub mod Found
 pub mod Edges
 pub mod Kinds
+pub mod Rest
 pub mod Map
 pub mod Tables
 pub mod Accepted

@@ -12,7 +12,8 @@ ghost use Rattle.layout.specs.Bytes.{held};
 ghost use Rattle.layout.specs.Zones.{zonesIn};
 ghost use Rattle.layout.specs.Found.{headsOf, ZonesAre};
 ghost use Rattle.layout.specs.Kinds.{Ready};
-ghost use Rattle.layout.specs.Map.{mapIn, Nothing, RestIs, LayoutIs, MapIs};
+ghost use Rattle.layout.specs.Map.{mapIn, Nothing, LayoutIs, MapIs};
+ghost use Rattle.layout.specs.Rest.{RestIs};
 
 // The lowest zone that is not of its kind.
 fn test_kinds(rows: &[[u64; 2]; 128], read: ZonesRead, count: usize) -> MapFault

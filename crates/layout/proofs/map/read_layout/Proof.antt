@@ -5,7 +5,8 @@ use borrow.Author.Tests.{not-true, not-false}
 use Rattle.layout.specs.Fault.{given}
 use Rattle.layout.specs.Bytes.{held}
 use Rattle.layout.specs.Heads.{countsIn, counts-range}
-use Rattle.layout.specs.Map.{noMap, mapAt, edgesIn, map-counts, map-zones, map-rest, nothing-is, made-is}
+use Rattle.layout.specs.Rest.{mapAt, edgesIn, map-counts, map-zones, map-rest}
+use Rattle.layout.specs.Map.{noMap, nothing-is, made-is}
 use Rattle.layout.proofs.map.read_layout.Statement.{statement}
 use Rattle.layout.proofs.map.read_layout.Tie as tie
 

@@ -2,7 +2,7 @@ use borrow.Author.Needs.{needs}
 use Prim.Native.Nat.{_-_}
 use mathlib.Core.Path.{sym, _∙_}
 use borrow.Author.Tests.{not-true, not-false}
-use Rattle.layout.specs.Map.{mapAt, edgesIn, rest-refused, rest-ready, rest-tested}
+use Rattle.layout.specs.Rest.{mapAt, edgesIn, rest-refused, rest-ready, rest-tested}
 use Rattle.layout.proofs.map.read_rest.Statement.{statement}
 use Rattle.layout.proofs.map.read_rest.Tie as tie
 
