@@ -82,28 +82,28 @@ bit-over rows u v l = go (lt-or-ge u 128)
 
 module _ (rows : List (List ℕ)) (listed : List ℕ) (first : ℕ) where
   -- places j and i are joined
-  abbrev pub hasTrack : ℕ → ℕ → Bool
-  hasTrack j i = bitAt rows (getD listed (first + j) 0) (getD listed (first + i) 0)
+  abbrev pub joinedAt : ℕ → ℕ → Bool
+  joinedAt j i = bitAt rows (getD listed (first + j) 0) (getD listed (first + i) 0)
 
   -- in a clique all places below are joined to it
-  pub row-clique : (size j : ℕ) → rowTest rows listed first 3 size j ≡ below (λ i. hasTrack j i) j
-  row-clique size j = below-same (pairTest rows listed first 3 size j) (λ i. hasTrack j i) j (λ i l. ap (sameBool (hasTrack j i)) (sym (links-any 3 size i j refl)) ∙ same-yes (hasTrack j i))
+  pub row-clique : (size j : ℕ) → rowTest rows listed first 3 size j ≡ below (λ i. joinedAt j i) j
+  row-clique size j = below-same (pairTest rows listed first 3 size j) (λ i. joinedAt j i) j (λ i l. ap (sameBool (joinedAt j i)) (sym (links-any 3 size i j refl)) ∙ same-yes (joinedAt j i))
 
   module _ (kind size : ℕ) (line : kind ≡ 3 → ⊥) where
-    before : (j : ℕ) → pairTest rows listed first kind size (j + 1) j ≡ hasTrack (j + 1) j
-    before j = ap (sameBool (hasTrack (j + 1) j)) (sym (links-next kind size j (j + 1) line refl)) ∙ same-yes (hasTrack (j + 1) j)
+    before : (j : ℕ) → pairTest rows listed first kind size (j + 1) j ≡ joinedAt (j + 1) j
+    before j = ap (sameBool (joinedAt (j + 1) j)) (sym (links-next kind size j (j + 1) line refl)) ∙ same-yes (joinedAt (j + 1) j)
 
-    between : (j i : ℕ) → i < j → pairTest rows listed first kind size (j + 2) (i + 1) ≡ not (hasTrack (j + 2) (i + 1))
-    between j i l = ap (sameBool (hasTrack (j + 2) (i + 1))) (links-later kind size (i + 1) (j + 2) line (λ (e : j + 2 ≡ i + 1 + 1). omega arith) (λ (e : i + 1 ≡ 0). omega arith)) ∙ same-no (hasTrack (j + 2) (i + 1))
+    between : (j i : ℕ) → i < j → pairTest rows listed first kind size (j + 2) (i + 1) ≡ not (joinedAt (j + 2) (i + 1))
+    between j i l = ap (sameBool (joinedAt (j + 2) (i + 1))) (links-later kind size (i + 1) (j + 2) line (λ (e : j + 2 ≡ i + 1 + 1). omega arith) (λ (e : i + 1 ≡ 0). omega arith)) ∙ same-no (joinedAt (j + 2) (i + 1))
 
     -- what the code asks of place j: the place before, the first, and those between
     abbrev pub lineTest : ℕ → Bool
-    lineTest j = hasTrack j (j - 1) && (sameBool (hasTrack j 0) (linked kind size 0 j) && below (λ i. not (hasTrack j (i + 1))) (j - 2))
+    lineTest j = joinedAt j (j - 1) && (sameBool (joinedAt j 0) (linked kind size 0 j) && below (λ i. not (joinedAt j (i + 1))) (j - 2))
 
     -- place 1, and place j + 2
     row-one : rowTest rows listed first kind size 1 ≡ lineTest 1
     unfolding below _&&_
-    row-one = below-step (pairTest rows listed first kind size 1) 0 ∙ one (pairTest rows listed first kind size 1 0) (hasTrack 1 0) (before 0)
+    row-one = below-step (pairTest rows listed first kind size 1) 0 ∙ one (pairTest rows listed first kind size 1 0) (joinedAt 1 0) (before 0)
       where
         one : (a b : Bool) → a ≡ b → (a && true) ≡ (b && (a && true))
         one true b e = rw (← e)
@@ -116,11 +116,11 @@ module _ (rows : List (List ℕ)) (listed : List ℕ) (first : ℕ) where
         let c : j + 2 - 2 ≡ j = omega arith in
         ap (below (pairTest rows listed first kind size (j + 2))) a
         ∙ below-step (pairTest rows listed first kind size (j + 2)) (j + 1)
-        ∙ ap₂ _&&_ (ap (λ (k : ℕ). pairTest rows listed first kind size k (j + 1)) a ∙ before (j + 1) ∙ ap₂ hasTrack (sym a) (sym b))
+        ∙ ap₂ _&&_ (ap (λ (k : ℕ). pairTest rows listed first kind size k (j + 1)) a ∙ before (j + 1) ∙ ap₂ joinedAt (sym a) (sym b))
         (below-first (pairTest rows listed first kind size (j + 2)) j
         ∙ ap (λ (x : Bool). pairTest rows listed first kind size (j + 2) 0 && x)
-        (below-same (λ i. pairTest rows listed first kind size (j + 2) (i + 1)) (λ i. not (hasTrack (j + 2) (i + 1))) j (λ i l. between j i l)
-        ∙ ap (below (λ i. not (hasTrack (j + 2) (i + 1)))) (sym c)))
+        (below-same (λ i. pairTest rows listed first kind size (j + 2) (i + 1)) (λ i. not (joinedAt (j + 2) (i + 1))) j (λ i l. between j i l)
+        ∙ ap (below (λ i. not (joinedAt (j + 2) (i + 1)))) (sym c)))
 
     pub row-line : (j : ℕ) → 0 < j → rowTest rows listed first kind size j ≡ lineTest j
     row-line zero h = absurd (omega arith)
@@ -129,22 +129,22 @@ module _ (rows : List (List ℕ)) (listed : List ℕ) (first : ℕ) where
 
     -- the ways out of the test: not joined to the place before, not as the kind has it to the first, and what those between say
     module _ (j : ℕ) (pos : 0 < j) where
-      pub line-before : hasTrack j (j - 1) ≡ false → false ≡ rowTest rows listed first kind size j
+      pub line-before : joinedAt j (j - 1) ≡ false → false ≡ rowTest rows listed first kind size j
       unfolding _&&_
-      line-before e = sym (row-line j pos ∙ ap (λ (b : Bool). b && (sameBool (hasTrack j 0) (linked kind size 0 j) && below (λ i. not (hasTrack j (i + 1))) (j - 2))) e)
+      line-before e = sym (row-line j pos ∙ ap (λ (b : Bool). b && (sameBool (joinedAt j 0) (linked kind size 0 j) && below (λ i. not (joinedAt j (i + 1))) (j - 2))) e)
 
-      module _ (before : hasTrack j (j - 1) ≡ true) where
-        rest : rowTest rows listed first kind size j ≡ (sameBool (hasTrack j 0) (linked kind size 0 j) && below (λ i. not (hasTrack j (i + 1))) (j - 2))
+      module _ (before : joinedAt j (j - 1) ≡ true) where
+        rest : rowTest rows listed first kind size j ≡ (sameBool (joinedAt j 0) (linked kind size 0 j) && below (λ i. not (joinedAt j (i + 1))) (j - 2))
         unfolding _&&_
-        rest = row-line j pos ∙ ap (λ (b : Bool). b && (sameBool (hasTrack j 0) (linked kind size 0 j) && below (λ i. not (hasTrack j (i + 1))) (j - 2))) before
+        rest = row-line j pos ∙ ap (λ (b : Bool). b && (sameBool (joinedAt j 0) (linked kind size 0 j) && below (λ i. not (joinedAt j (i + 1))) (j - 2))) before
 
-        pub line-first : sameBool (hasTrack j 0) (linked kind size 0 j) ≡ false → false ≡ rowTest rows listed first kind size j
+        pub line-first : sameBool (joinedAt j 0) (linked kind size 0 j) ≡ false → false ≡ rowTest rows listed first kind size j
         unfolding _&&_
-        line-first e = sym (rest ∙ ap (λ (b : Bool). b && below (λ i. not (hasTrack j (i + 1))) (j - 2)) e)
+        line-first e = sym (rest ∙ ap (λ (b : Bool). b && below (λ i. not (joinedAt j (i + 1))) (j - 2)) e)
 
-        pub line-between : sameBool (hasTrack j 0) (linked kind size 0 j) ≡ true → below (λ i. not (hasTrack j (i + 1))) (j - 2) ≡ rowTest rows listed first kind size j
+        pub line-between : sameBool (joinedAt j 0) (linked kind size 0 j) ≡ true → below (λ i. not (joinedAt j (i + 1))) (j - 2) ≡ rowTest rows listed first kind size j
         unfolding _&&_
-        line-between e = sym (rest ∙ ap (λ (b : Bool). b && below (λ i. not (hasTrack j (i + 1))) (j - 2)) e)
+        line-between e = sym (rest ∙ ap (λ (b : Bool). b && below (λ i. not (joinedAt j (i + 1))) (j - 2)) e)
 
   -- the first row asks nothing
   row-zero : (kind size : ℕ) → rowTest rows listed first kind size 0 ≡ true
@@ -173,12 +173,12 @@ module _ (rows : List (List ℕ)) (listed : List ℕ) (first : ℕ) where
       go : (b : Bool) → eqb size 1 ≡ b → (0 < j) ⊎ (j ≤ 0) → eqb size 1 ≡ below (rowTest rows listed first 3 size) size
       go true e w = let z = eqb-true size 1 e in e ∙ rows-few 3 size (omega arith)
       go false e (inl p) = e ∙ below-fails (rowTest rows listed first 3 size) size j l
-          (row-clique size j ∙ sym (below-fails (λ i. hasTrack j i) j 0 p (sym (bit-out rows (getD listed (first + j) 0) (getD listed (first + 0) 0) h))))
+          (row-clique size j ∙ sym (below-fails (λ i. joinedAt j i) j 0 p (sym (bit-out rows (getD listed (first + j) 0) (getD listed (first + 0) 0) h))))
       go false e (inr p) =
           let d = eqb-false size 1 e in
           let z : j ≡ 0 = omega arith in
           e ∙ below-fails (rowTest rows listed first 3 size) size 1 (omega arith)
-          (row-clique size 1 ∙ sym (below-fails (λ i. hasTrack 1 i) 1 0 (omega arith) (bit-over rows (getD listed (first + 1) 0) (getD listed (first + 0) 0) (rw z at h))))
+          (row-clique size 1 ∙ sym (below-fails (λ i. joinedAt 1 i) 1 0 (omega arith) (bit-over rows (getD listed (first + 1) 0) (getD listed (first + 0) 0) (rw z at h))))
 
   -- ---- the marked places
 

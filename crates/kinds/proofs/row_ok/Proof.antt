@@ -6,6 +6,7 @@ use lib.ListN.{getD}
 use borrow.Author.Tests.{not-true, not-false}
 use Rattle.spec.specs.Layout.{sameBool}
 use Rattle.adjacency.specs.Rows.{bitAt}
+use Rattle.kinds.specs.Marks.{apartTest}
 use Rattle.kinds.specs.Places.{line-before, line-first, line-between}
 use Rattle.kinds.proofs.row_ok.Statement.{statement}
 use Rattle.kinds.proofs.row_ok.Tie as tie
@@ -63,7 +64,8 @@ returns-3 c =
     let q = c .before .before .before .before .before .before .before .before .before .before .pre in
     let z : a .first ≡ a .first + 0 = omega arith in
     let e = c .before .before .before .before .joined2 .ensures ∙ ap (λ (i : ℕ). bitAt (a .rows .now) (getD (a .listed .now) (a .first + a .j) 0) (getD (a .listed .now) i 0)) z in
-    c .apart .ensures ∙ q .1 (getD (a .listed .now) (a .first + a .j) 0)
+    let w : c .apart .result ≡ apartTest (a .rows .now) (a .low) (a .high) (getD (a .listed .now) (a .first + a .j) 0) = c .apart .ensures in
+    w ∙ q .1 (getD (a .listed .now) (a .first + a .j) 0)
     ∙ line-between (a .rows .now) (a .listed .now) (a .first) (a .kind) (a .size) (q .0 .0) (a .j) (q .0 .1) (sym (c .before .before .before .before .before .before .before .joined .ensures) ∙ not-false _ (c .before .before .before .before .before .before .if1 .left)) (sym (c .before .before .same .ensures ∙ ap₂ sameBool e (c .before .before .before .links .ensures)) ∙ not-false _ (c .before .if2 .left))
 
 pub row-ok-spec : {M : Type 1} → statement M
