@@ -52,7 +52,8 @@ out-more zone z from i h l =
 abbrev clearAt : List ℕ → ℕ → ℕ → ℕ → ℕ → Bool
 clearAt zone z at a i = eqb (getD zone (at + i) 0) z || not (eqb (bitOf a i) 1)
 
-split : (a w d : ℕ) → d < 2 → bitAnd a (w * 2 + d) ≡ bitAnd (a / 2) w * 2 + min (a % 2) d
+-- one bit more at the bottom
+pub split : (a w d : ℕ) → d < 2 → bitAnd a (w * 2 + d) ≡ bitAnd (a / 2) w * 2 + min (a % 2) d
 split a w d h =
     let x : (w * 2 + d) / 2 ≡ w = omega arith in
     let y : (w * 2 + d) % 2 ≡ d = omega arith in
@@ -82,6 +83,12 @@ common-none zone z at (suc k) a e (suc i) h =
     let o : at + 1 + i ≡ at + suc i = omega arith in
     ap₂ (λ (x y : ℕ). eqb (getD zone x 0) z || not (eqb y 1)) (sym o) (bit-suc a i) ∙ common-none zone z (at + 1) k (a / 2) t i (omega arith)
 
+-- a bit that is not 1
+pub clear : (x : ℕ) → x < 2 → not (eqb x 1) ≡ true → x ≡ 0
+clear zero l e = refl
+clear (suc zero) l e = absurd (let q : _≡_ {A = ℕ} (elim false as (λ _. ℕ) [ true ↦ 0 | false ↦ 1 ]) (elim true as (λ _. ℕ) [ true ↦ 0 | false ↦ 1 ]) = ap (λ (b : Bool). elim b as (λ _. ℕ) [ true ↦ 0 | false ↦ 1 ]) e in omega arith)
+clear (suc (suc x)) l e = absurd (omega arith)
+
 -- and the other way
 none-common : (zone : List ℕ) (z at k a : ℕ) → ((i : ℕ) → i < k → clearAt zone z at a i ≡ true) → bitAnd a (outFrom zone z at k) ≡ 0
 unfolding outFrom _||_
@@ -98,28 +105,23 @@ none-common zone z at (suc k) a h =
         let p : at + 1 + i ≡ at + suc i = omega arith in
         ap₂ (λ (x y : ℕ). eqb (getD zone x 0) z || not (eqb y 1)) p (sym (bit-suc a i)) ∙ h (suc i) (omega arith)
 
-    one : (x : ℕ) → x < 2 → not (eqb x 1) ≡ true → x ≡ 0
-    one zero l e = refl
-    one (suc zero) l e = absurd (let q : _≡_ {A = ℕ} (elim false as (λ _. ℕ) [ true ↦ 0 | false ↦ 1 ]) (elim true as (λ _. ℕ) [ true ↦ 0 | false ↦ 1 ]) = ap (λ (b : Bool). elim b as (λ _. ℕ) [ true ↦ 0 | false ↦ 1 ]) e in omega arith)
-    one (suc (suc x)) l e = absurd (omega arith)
-
     go : (b : Bool) → eqb (getD zone at 0) z ≡ b → min (a % 2) (outBit (eqb (getD zone at 0) z)) ≡ 0
     go true q = ap (λ (b : Bool). min (a % 2) (outBit b)) q ∙ omega arith
     go false q =
         let w : clearAt zone z at a 0 ≡ true = h 0 (omega arith) in
         let c : (eqb (getD zone (at + 0) 0) z) ≡ false = ap (λ (x : ℕ). eqb (getD zone x 0) z) o ∙ q in
         let t : not (eqb (bitOf a 0) 1) ≡ true = rw c at w in
-        let r : a % 2 ≡ 0 = one (a % 2) (omega arith) (ap (λ (x : ℕ). not (eqb x 1)) (sym (bit-zero a)) ∙ t) in
+        let r : a % 2 ≡ 0 = clear (a % 2) (omega arith) (ap (λ (x : ℕ). not (eqb x 1)) (sym (bit-zero a)) ∙ t) in
         omega arith
 
 -- the bits of a row, by its two words
-low-bit : (rows : List (List ℕ)) (v u : ℕ) → v < 128 → u < 64 → bitAt rows v u ≡ eqb (bitOf (getD (getD rows v []) 0 0) u) 1
+pub low-bit : (rows : List (List ℕ)) (v u : ℕ) → v < 128 → u < 64 → bitAt rows v u ≡ eqb (bitOf (getD (getD rows v []) 0 0) u) 1
 low-bit rows v u h l =
     let a : u / 64 ≡ 0 = omega arith in
     let b : u % 64 ≡ u = omega arith in
     sym (bit-in rows v u h (omega arith)) ∙ ap₂ (λ (x y : ℕ). eqb (bitOf (getD (getD rows v []) x 0) y) 1) a b
 
-high-bit : (rows : List (List ℕ)) (v i : ℕ) → v < 128 → i < 64 → bitAt rows v (64 + i) ≡ eqb (bitOf (getD (getD rows v []) 1 0) i) 1
+pub high-bit : (rows : List (List ℕ)) (v i : ℕ) → v < 128 → i < 64 → bitAt rows v (64 + i) ≡ eqb (bitOf (getD (getD rows v []) 1 0) i) 1
 high-bit rows v i h l =
     let a : (64 + i) / 64 ≡ 1 = omega arith in
     let b : (64 + i) % 64 ≡ i = omega arith in

@@ -1,10 +1,11 @@
 // Whether a zone is of its kind (document 01, "Zones and configurations"), tested on the rows of the adjacency.
 ghost use mathlib.Core.Path.{_≡_};
-ghost use Prim.Native.Nat.{ℕ, _+_, _-_, _<_, _≤_};
+ghost use Prim.Native.Nat.{_+_, _<_, _≤_};
 ghost use Rattle.spec.specs.Layout.{linked, sameBool};
-ghost use mathlib.Core.List.{List};
 ghost use Rattle.kinds.specs.Words.{outFrom};
-ghost use Rattle.kinds.specs.Tests.{rowTest, shapeTest, innerTest, closedTest, stackTest, kindTest};
+ghost use Rattle.kinds.specs.Marks.{markWord, meetTest, apartTest};
+ghost use Rattle.kinds.specs.Places.{Between};
+ghost use Rattle.kinds.specs.Tests.{rowTest, shapeTest, closedTest, stackTest, kindTest};
 
 // Are places i < j of a zone joined inside it, by its kind?
 fn links(kind: u8, size: usize, i: usize, j: usize) -> bool
@@ -32,7 +33,73 @@ fn same(a: bool, b: bool) -> bool
     if a { b } else { !b }
 }
 
-// Are the places below j joined to place j as the kind has it?
+// The word of the vertices from 64 * at on, with vertex u marked where it is one of these.
+fn marked(word: u64, at: usize, u: u8) -> u64
+    ensures { λ r. ⌜ r ≡ markWord word at u ⌝ }
+{
+    let i = u as usize;
+    if i / 64 != at {
+        return word;
+    }
+    let place = (i % 64) as u32;
+    word | (1 << place)
+}
+
+// Is vertex v joined to each vertex of the two words?
+fn meets(rows: &[[u64; 2]; 128], low: u64, high: u64, v: u8) -> bool
+    requires { ⌜ v < 128 ⌝ }
+    ensures { λ r. ⌜ r ≡ meetTest (now (rows .entry)) low high v ⌝ }
+{
+    let i = v as usize;
+    let a = rows[i][0] & low;
+    if a != low {
+        return false;
+    }
+    let b = rows[i][1] & high;
+    b == high
+}
+
+// Is vertex v joined to no vertex of the two words?
+fn apart(rows: &[[u64; 2]; 128], low: u64, high: u64, v: u8) -> bool
+    ensures { λ r. ⌜ r ≡ apartTest (now (rows .entry)) low high v ⌝ }
+{
+    let i = v as usize;
+    if i >= 128 {
+        return true;
+    }
+    let a = rows[i][0] & low;
+    if a != 0 {
+        return false;
+    }
+    let b = rows[i][1] & high;
+    b == 0
+}
+
+// Are any two places of a clique joined? The words hold the places below j.
+fn clique_ok(rows: &[[u64; 2]; 128], listed: &[u8; 128], first: usize, size: usize) -> bool
+    requires { ⌜ first + size ≤ 128 ⌝ }
+    ensures { λ r. ⌜ r ≡ shapeTest (now (rows .entry)) (now (listed .entry)) first 3 size ⌝ }
+{
+    let mut low: u64 = 0;
+    let mut high: u64 = 0;
+    let mut j: usize = 0;
+    while j < size {
+        let v = listed[first + j];
+        if v >= 128 {
+            return size == 1;
+        }
+        if !meets(rows, low, high, v) {
+            return false;
+        }
+        low = marked(low, 0, v);
+        high = marked(high, 1, v);
+        j += 1;
+    }
+    true
+}
+
+// Is place j of a stack, hall or ring joined to the place before it, to the first as the kind has it, and to none between?
+// The words hold the places between.
 fn row_ok(
     rows: &[[u64; 2]; 128],
     listed: &[u8; 128],
@@ -40,20 +107,49 @@ fn row_ok(
     kind: u8,
     size: usize,
     j: usize,
+    low: u64,
+    high: u64,
 ) -> bool
-    requires { ⌜ (j < size) × (first + size ≤ 128) ⌝ }
+    requires { ⌜ (kind ≡ 3 → ⊥) × (0 < j) × (j < size) × (first + size ≤ 128) ⌝ }
+    requires { ⌜ Between (now rows) (now listed) first low high j ⌝ }
     ensures { λ r. ⌜ r ≡ rowTest (now (rows .entry)) (now (listed .entry)) first kind size j ⌝ }
 {
     let v = listed[first + j];
-    let mut i = j;
-    while 0 < i {
-        i -= 1;
-        let u = listed[first + i];
-        let h = adjacency::joined(rows, numbering::Vertex(v), numbering::Vertex(u));
-        let l = links(kind, size, i, j);
-        if !same(h, l) {
+    let u = listed[first + (j - 1)];
+    if !adjacency::joined(rows, numbering::Vertex(v), numbering::Vertex(u)) {
+        return false;
+    }
+    let start = listed[first];
+    let h = adjacency::joined(rows, numbering::Vertex(v), numbering::Vertex(start));
+    let l = links(kind, size, 0, j);
+    if !same(h, l) {
+        return false;
+    }
+    apart(rows, low, high, v)
+}
+
+// Are the edges inside a stack, hall or ring those of its kind?
+fn line_ok(rows: &[[u64; 2]; 128], listed: &[u8; 128], first: usize, kind: u8, size: usize) -> bool
+    requires { ⌜ (kind ≡ 3 → ⊥) × (first + size ≤ 128) ⌝ }
+    ensures { λ r. ⌜ r ≡ shapeTest (now (rows .entry)) (now (listed .entry)) first kind size ⌝ }
+{
+    if size < 2 {
+        return true;
+    }
+    if !row_ok(rows, listed, first, kind, size, 1, 0, 0) {
+        return false;
+    }
+    let mut low: u64 = 0;
+    let mut high: u64 = 0;
+    let mut j: usize = 2;
+    while j < size {
+        if !row_ok(rows, listed, first, kind, size, j, low, high) {
             return false;
         }
+        let u = listed[first + (j - 1)];
+        low = marked(low, 0, u);
+        high = marked(high, 1, u);
+        j += 1;
     }
     true
 }
@@ -63,14 +159,10 @@ fn shape_ok(rows: &[[u64; 2]; 128], listed: &[u8; 128], first: usize, kind: u8, 
     requires { ⌜ first + size ≤ 128 ⌝ }
     ensures { λ r. ⌜ r ≡ shapeTest (now (rows .entry)) (now (listed .entry)) first kind size ⌝ }
 {
-    let mut j = size;
-    while 0 < j {
-        j -= 1;
-        if !row_ok(rows, listed, first, kind, size, j) {
-            return false;
-        }
+    if kind == 3 {
+        return clique_ok(rows, listed, first, size);
     }
-    true
+    line_ok(rows, listed, first, kind, size)
 }
 
 // The word of 64 vertices: bit i says that vertex from + i is not in zone z.
@@ -92,22 +184,6 @@ fn outside(zone: &[u8; 128], z: u8, from: usize) -> u64
     word
 }
 
-// Does no edge lead from vertex v to a vertex of the two words?
-fn inner_ok(rows: &[[u64; 2]; 128], low: u64, high: u64, v: u8) -> bool
-    ensures { λ r. ⌜ ((zone : List ℕ) (z : ℕ) → low ≡ outFrom zone z 0 64 → high ≡ outFrom zone z 64 64 → r ≡ innerTest (now (rows .entry)) zone z v) ⌝ }
-{
-    let i = v as usize;
-    if i >= 128 {
-        return true;
-    }
-    let a = rows[i][0] & low;
-    if a != 0 {
-        return false;
-    }
-    let b = rows[i][1] & high;
-    b == 0
-}
-
 // Does no edge lead out of the zone but from its first vertex?
 fn closed_ok(
     rows: &[[u64; 2]; 128],
@@ -126,7 +202,7 @@ fn closed_ok(
     while 1 < i {
         i -= 1;
         let v = listed[first + i];
-        if !inner_ok(rows, low, high, v) {
+        if !apart(rows, low, high, v) {
             return false;
         }
     }

@@ -1,21 +1,28 @@
 -- The edges of a map, read into the rows.
 use Prim.Native.Nat.{ℕ, zero, suc, _+_, _-_, _*_, _≤_, _<_}
 use mathlib.Core.Path.{_≡_, refl, ap, ap₂, sym, _∙_}
-use mathlib.Core.Bool.{true, false}
+use mathlib.Core.Bool.{Bool, true, false}
 use mathlib.Core.List.{List, [], _∷_, _++_}
 use lib.ListN.{length, getD}
 use lib.Dec.{eqb, ltb, leb}
-use borrow.Author.Tests.{lt-ltb, le-ltb, le-leb, lt-leb, eq-eqb, ne-eqb}
+use borrow.Author.Tests.{lt-ltb, le-ltb, le-leb, lt-leb, eq-eqb, ne-eqb, ltb-true, ltb-false}
 use native.Mathlib.Numerals.{add-one}
 use native.Mathlib.Omega.{arith}
-use Rattle.spec.specs.Outcome.{ok, refuse, _>>=_, _>>_, check, _&&_}
+use Rattle.spec.specs.Outcome.{Outcome, ok, refuse, _>>=_, _>>_, check, _&&_}
+use Rattle.spec.specs.Layout as layout
 use Rattle.spec.specs.Layout.{Edge, readEdges, edgesOf}
 use Rattle.wire.specs.Payload.{placeOf, wordAt}
 use Rattle.adjacency.specs.Rows.{join, joinAll, rows-snoc, Shows, shows-more, both}
 use Rattle.layout.specs.declared.MapFault.{MapFault}
-use Rattle.layout.specs.declared.MapFault.the-variants.{None, Short}
+use Rattle.layout.specs.declared.MapFault.the-variants.{None, Short, Range}
 use Rattle.layout.specs.Fault.{answered, soundOf, not-both, given, handed, relayed}
 use Rattle.layout.specs.Bytes.{held, held-size, no-byte, a-byte, no-word, a-word}
+
+-- a pair of payload bytes of which the first stands at `at`: where the second stands, and where the next pair begins
+pub record PlacesAre (at behind next : ℕ) : Type 0 where
+  pub after : at < behind
+  pub second : (off : ℕ) → at ≡ placeOf off → behind ≡ placeOf (off + 1)
+  pub third : (off : ℕ) → at ≡ placeOf off → next ≡ placeOf (off + 2)
 
 abbrev pub edgeAt : List ℕ → ℕ → Edge
 edgeAt file o = record { a = getD file (placeOf o) 0; b = getD file (placeOf (o + 1)) 0 }
@@ -37,9 +44,14 @@ pub record EdgesAre (file : List ℕ) (m n e from : ℕ) (before rows : List (Li
   pub entered : soundOf f ≡ true → rows ≡ joinAll before (edgesAt file from e)
   pub shown : soundOf f ≡ true → Shows before [] → Shows rows (edgesAt file from e)
 
--- the edges of a map are read and entered, or refused
-pub record EdgesFound (file : List ℕ) (m n o : ℕ) (before rows : List (List ℕ)) (f : MapFault) : Type 0 where
-  pub answer : edgesOf n (held file m) o ≡ answered f (edgesAt file (o + 2) (wordAt file o))
+-- the tests at offset o before the edge count is read: does every vertex have a zone, and are the count's two bytes there
+pub record CountAt (covered there : Bool) (o : ℕ) (f : MapFault) : Type 0 where
+  pub answer : (file : List ℕ) (m : ℕ) → there ≡ ltb (o + 1) m → (check covered 17 o >> layout.wordAt 15 (held file m) o) ≡ answered f (wordAt file o)
+  pub passed : soundOf f ≡ true → (covered ≡ true) × (there ≡ true)
+
+-- the edges of a map whose zones list every vertex or not are read and entered, or refused
+pub record EdgesFound (file : List ℕ) (m n : ℕ) (covered : Bool) (o : ℕ) (before rows : List (List ℕ)) (f : MapFault) : Type 0 where
+  pub answer : (check covered 17 o >> edgesOf n (held file m) o) ≡ answered f (edgesAt file (o + 2) (wordAt file o))
   pub read : soundOf f ≡ true → readEdges n (held file m) (wordAt file o) (o + 2) 0 [] ≡ ok (edgesAt file (o + 2) (wordAt file o))
   pub entered : soundOf f ≡ true → rows ≡ joinAll before (edgesAt file (o + 2) (wordAt file o))
   pub shown : soundOf f ≡ true → Shows before [] → Shows rows (edgesAt file (o + 2) (wordAt file o))
@@ -166,37 +178,68 @@ edges-refused file m n e from before rows f s w = record { answer = w; entered =
 
 -- ---- the count before, the end behind
 
-module _ (file : List ℕ) (m n o : ℕ) (before rows : List (List ℕ)) where
-  pub found-fault : (f : MapFault) → soundOf f ≡ false → edgesOf n (held file m) o ≡ answered f (edgesAt file (o + 2) (wordAt file o)) → EdgesFound file m n o before rows f
+-- some vertex is in no zone, whatever comes after
+pub uncovered : {A : Type 0} (covered : Bool) (o : ℕ) (w : Outcome A) → covered ≡ false → (check covered 17 o >> w) ≡ refuse 17 o
+unfolding check _>>_
+uncovered covered o w h = rw h
+
+-- every vertex has a zone: the count's bytes are not there, or are
+module _ (covered there : Bool) (o : ℕ) (all : covered ≡ true) (file : List ℕ) (m : ℕ) (e : there ≡ ltb (o + 1) m) where
+  pub count-cut : there ≡ false → (check covered 17 o >> layout.wordAt 15 (held file m) o) ≡ refuse 15 o
+  unfolding check _>>_
+  count-cut w = rw all (no-word file m 15 o (ltb-false (o + 1) m (sym e ∙ w)))
+
+  pub count-read : there ≡ true → (check covered 17 o >> layout.wordAt 15 (held file m) o) ≡ ok (wordAt file o)
+  unfolding check _>>_
+  count-read w = rw all (a-word file m 15 o (ltb-true (o + 1) m (sym e ∙ w)))
+
+-- a refusal before the count is read is that of the edges
+early : (n : ℕ) (p : List ℕ) (covered : Bool) (o : ℕ) (f : MapFault) (x : ℕ) (es : List Edge) → soundOf f ≡ false → (check covered 17 o >> layout.wordAt 15 p o) ≡ answered f x
+    → (check covered 17 o >> edgesOf n p o) ≡ answered f es
+unfolding check _>>_ _>>=_ edgesOf
+early n p true o f x es s e = relayed (layout.wordAt 15 p o) f x _ es e s
+early n p false o f x es s e = relayed (refuse 17 o) f x (λ _. ok es) es e s
+
+module _ (file : List ℕ) (m n : ℕ) (covered : Bool) (o : ℕ) (before rows : List (List ℕ)) where
+  found-fault : (f : MapFault) → soundOf f ≡ false → (check covered 17 o >> edgesOf n (held file m) o) ≡ answered f (edgesAt file (o + 2) (wordAt file o)) → EdgesFound file m n covered o before rows f
   found-fault f s w = record { answer = w; read = λ t. not-both t s; entered = λ t. not-both t s; shown = λ t. not-both t s }
 
-  pub count-short : m ≤ o + 1 → edgesOf n (held file m) o ≡ refuse 15 o
-  unfolding edgesOf _>>=_
-  count-short h = rw (edgesOf, no-word file m 15 o h)
+  -- refused before the count is read
+  pub count-refused : (there : Bool) → there ≡ ltb (o + 1) m → (f : MapFault) → CountAt covered there o f → soundOf f ≡ false → EdgesFound file m n covered o before rows f
+  count-refused there h f g s = found-fault f s (early n (held file m) covered o f (wordAt file o) (edgesAt file (o + 2) (wordAt file o)) s (g .answer file m h))
 
-  module _ (there : o + 1 < m) where
-    pub count-over : 2048 < wordAt file o → edgesOf n (held file m) o ≡ refuse 16 o
+  module _ (pass : covered ≡ true) (there : o + 1 < m) where
+    passed : (check covered 17 o >> edgesOf n (held file m) o) ≡ edgesOf n (held file m) o
+    unfolding check _>>_
+    passed = rw pass
+
+    count-over : 2048 < wordAt file o → edgesOf n (held file m) o ≡ refuse 16 o
     unfolding edgesOf _>>=_ _>>_ check
     count-over h = rw (edgesOf, a-word file m 15 o there, lt-leb (wordAt file o) 2048 h)
+
+    -- there are more edges than a map may have
+    pub edges-many : 2048 < wordAt file o → EdgesFound file m n covered o before rows (Range o)
+    edges-many h = found-fault (Range o) refl (passed ∙ count-over h)
 
     module _ (few : wordAt file o ≤ 2048) (f : MapFault) (a : EdgesAre file m n (wordAt file o) (o + 2) before rows f) where
       step : edgesOf n (held file m) o ≡ (readEdges n (held file m) (wordAt file o) (o + 2) 0 [] >>= (λ es. check (eqb (o + 2 + wordAt file o * 2) (length (held file m))) 15 (o + 2 + wordAt file o * 2) >> ok es))
       unfolding edgesOf _>>=_ _>>_ check
       step = rw (edgesOf, a-word file m 15 o there, le-leb (wordAt file o) 2048 few)
 
-      pub edges-fault : soundOf f ≡ false → EdgesFound file m n o before rows f
-      edges-fault s = found-fault f s (step ∙ relayed (readEdges n (held file m) (wordAt file o) (o + 2) 0 []) f (edgesAt file (o + 2) (wordAt file o)) _ (edgesAt file (o + 2) (wordAt file o)) (a .answer) s)
+      pub edges-fault : soundOf f ≡ false → EdgesFound file m n covered o before rows f
+      edges-fault s = found-fault f s
+          (passed ∙ step ∙ relayed (readEdges n (held file m) (wordAt file o) (o + 2) 0 []) f (edgesAt file (o + 2) (wordAt file o)) _ (edgesAt file (o + 2) (wordAt file o)) (a .answer) s)
 
       module _ (s : soundOf f ≡ true) where
-        last : edgesOf n (held file m) o ≡ (check (eqb (o + 2 + wordAt file o * 2) (length (held file m))) 15 (o + 2 + wordAt file o * 2) >> ok (edgesAt file (o + 2) (wordAt file o)))
-        last = step ∙ handed (readEdges n (held file m) (wordAt file o) (o + 2) 0 []) f (edgesAt file (o + 2) (wordAt file o)) _ (a .answer) s
+        last : (check covered 17 o >> edgesOf n (held file m) o) ≡ (check (eqb (o + 2 + wordAt file o * 2) (length (held file m))) 15 (o + 2 + wordAt file o * 2) >> ok (edgesAt file (o + 2) (wordAt file o)))
+        last = passed ∙ step ∙ handed (readEdges n (held file m) (wordAt file o) (o + 2) 0 []) f (edgesAt file (o + 2) (wordAt file o)) _ (a .answer) s
 
         -- bytes are left
-        pub edges-surplus : (o + 2 + wordAt file o * 2 ≡ m → ⊥) → EdgesFound file m n o before rows (Short (o + 2 + wordAt file o * 2))
+        pub edges-surplus : (o + 2 + wordAt file o * 2 ≡ m → ⊥) → EdgesFound file m n covered o before rows (Short (o + 2 + wordAt file o * 2))
         unfolding check _>>_
         edges-surplus d = found-fault (Short (o + 2 + wordAt file o * 2)) refl (last ∙ rw (held-size file m, ne-eqb (o + 2 + wordAt file o * 2) m d))
 
-        pub edges-whole : o + 2 + wordAt file o * 2 ≡ m → EdgesFound file m n o before rows None
+        pub edges-whole : o + 2 + wordAt file o * 2 ≡ m → EdgesFound file m n covered o before rows None
         unfolding check _>>_
         edges-whole d = record {
           answer = last ∙ rw (held-size file m, eq-eqb (o + 2 + wordAt file o * 2) m d);

@@ -4,6 +4,7 @@ use mathlib.Core.Bool.{Bool, true, false}
 use Prim.Native.Nat.{ℕ}
 use native.Mathlib.Omega.{arith}
 use Rattle.spec.specs.Outcome.{Outcome, ok, refuse, _>>=_, _>>_}
+use Rattle.layout.specs.Chain.{Refused, hand, relay, hand-on, relay-on}
 use Rattle.layout.specs.declared.MapFault.{MapFault}
 use Rattle.layout.specs.declared.MapFault.the-variants.{None, Length, Checksum, Head, Fill, Short, Range, Listing, Edge, Kind}
 
@@ -53,13 +54,11 @@ sound-none (Kind z) e = not-both e refl
 pub given : {A : Type 0} (o : Outcome A) (f : MapFault) (a : A) → o ≡ answered f a → soundOf f ≡ true → o ≡ ok a
 given o f a e s = e ∙ ap (λ (g : MapFault). answered g a) (sound-none f s)
 
--- a fault's number and place, whatever was to be read
-pub record Refused (f : MapFault) : Type 1 where
-  pub number : ℕ
-  pub place : ℕ
-  pub is : {A : Type 0} (a : A) → answered f a ≡ refuse number place
+abbrev answers : (A : Type 0) → MapFault → A → Outcome A
+answers A f a = answered f a
 
-pub refused : (f : MapFault) → soundOf f ≡ false → Refused f
+-- a fault's number and place, whatever was to be read
+pub refused : (f : MapFault) → soundOf f ≡ false → Refused answers f
 refused None s = not-both refl s
 refused Length s = record { number = 11; place = 0; is = λ a. refl }
 refused (Checksum i) s = record { number = 12; place = i; is = λ a. refl }
@@ -71,22 +70,18 @@ refused (Listing i) s = record { number = 17; place = i; is = λ a. refl }
 refused (Edge i) s = record { number = 18; place = i; is = λ a. refl }
 refused (Kind i) s = record { number = 19; place = i; is = λ a. refl }
 
-module _ {A B : Type 0} where
+module _ {A B : Type 0} (o : Outcome A) (f : MapFault) (a : A) where
   -- a step that gives a value hands it on
-  pub handed : (o : Outcome A) (f : MapFault) (a : A) (g : A → Outcome B) → o ≡ answered f a → soundOf f ≡ true → (o >>= g) ≡ g a
-  unfolding _>>=_
-  handed o f a g e s = rw (e, sound-none f s)
+  pub handed : (g : A → Outcome B) → o ≡ answered f a → soundOf f ≡ true → (o >>= g) ≡ g a
+  handed g e s = hand answers o f a e (given (answered f a) f a refl s) g
 
   -- a step that is refused ends the chain
-  pub relayed : (o : Outcome A) (f : MapFault) (a : A) (g : A → Outcome B) (b : B) → o ≡ answered f a → soundOf f ≡ false → (o >>= g) ≡ answered f b
-  unfolding _>>=_
-  relayed o f a g b e s = let r = refused f s in ap (λ (x : Outcome A). x >>= g) (e ∙ r .is a) ∙ sym (r .is b)
+  pub relayed : (g : A → Outcome B) (b : B) → o ≡ answered f a → soundOf f ≡ false → (o >>= g) ≡ answered f b
+  relayed g b e s = relay answers o f a e (refused f s) g b
 
   -- the same where the value is not used
-  pub handed-on : (o : Outcome A) (f : MapFault) (a : A) (g : Outcome B) → o ≡ answered f a → soundOf f ≡ true → (o >> g) ≡ g
-  unfolding _>>_
-  handed-on o f a g e s = rw (e, sound-none f s)
+  pub handed-on : (g : Outcome B) → o ≡ answered f a → soundOf f ≡ true → (o >> g) ≡ g
+  handed-on g e s = hand-on answers o f a e (given (answered f a) f a refl s) g
 
-  pub relayed-on : (o : Outcome A) (f : MapFault) (a : A) (g : Outcome B) (b : B) → o ≡ answered f a → soundOf f ≡ false → (o >> g) ≡ answered f b
-  unfolding _>>_
-  relayed-on o f a g b e s = let r = refused f s in ap (λ (x : Outcome A). x >> g) (e ∙ r .is a) ∙ sym (r .is b)
+  pub relayed-on : (g : Outcome B) (b : B) → o ≡ answered f a → soundOf f ≡ false → (o >> g) ≡ answered f b
+  relayed-on g b e s = relay-on answers o f a e (refused f s) g b

@@ -1,10 +1,15 @@
+pub mod Chain
 pub mod Fault
 pub mod Bytes
 pub mod Heads
 pub mod Table
+pub mod Vertices
 pub mod Zones
+pub mod Reading
+pub mod Found
 pub mod Edges
 pub mod Kinds
+pub mod Rest
 pub mod Map
 pub mod Tables
 pub mod Accepted

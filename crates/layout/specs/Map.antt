@@ -1,30 +1,28 @@
 -- The whole map: what was read is the map that the definition gives.
-use Prim.Native.Nat.{ℕ, _+_, _-_, _*_, _/_, _≤_, _<_}
+use Prim.Native.Nat.{ℕ, _+_, _*_, _/_, _≤_, _<_}
 use mathlib.Core.Path.{_≡_, refl, ap, sym, _∙_, subst}
-use mathlib.Core.Bool.{Bool, true, false}
+use mathlib.Core.Bool.{true, false}
 use mathlib.Core.List.{List, []}
 use lib.ListN.{length, getD, take, drop, replicate}
 use native.Mathlib.Omega.{arith}
-use Rattle.spec.specs.Outcome.{Outcome, ok, refuse, _>>=_, _>>_, indexOf}
+use Rattle.spec.specs.Outcome.{Outcome, ok, refuse, _>>=_, indexOf}
 use Rattle.spec.specs.Wire.{payloadOf}
-use Rattle.spec.specs.Layout.{Map, Edge, countsOf, zonesOf, edgesOf, kindsFrom, mapOf, zoneFrom, zoneOf, zoneAt}
+use Rattle.spec.specs.Layout.{Map, Edge, listed, mapOf, zoneFrom, zoneOf, zoneAt}
 use Rattle.theory.specs.Basics.Lists.{getD-uniform}
 use Rattle.wire.specs.declared.Checked.{Checked}
 use Rattle.wire.specs.declared.Checked.the-variants.{Payload}
-use Rattle.wire.specs.Payload.{wordAt}
 use Rattle.wire.specs.Checked.{checkedOf, Held, Whole}
 use Rattle.adjacency.specs.Rows.{blank, rowsOf, joinAll, Shows, shows-none}
 use Rattle.layout.specs.declared.MapFault.{MapFault}
 use Rattle.layout.specs.declared.MapFault.the-variants.{None}
-use Rattle.layout.specs.declared.CountsRead.{CountsRead}
 use Rattle.layout.specs.declared.ZonesRead.{ZonesRead}
 use Rattle.layout.specs.declared.MapRead.{MapRead}
-use Rattle.layout.specs.Fault.{answered, soundOf, sound-none, not-both, given, refused, handed, relayed, handed-on, relayed-on}
+use Rattle.layout.specs.Fault.{answered, soundOf, not-both, given, refused}
 use Rattle.layout.specs.Bytes.{held, held-payload}
-use Rattle.layout.specs.Heads.{countsIn}
-use Rattle.layout.specs.Zones.{ZonesFound, headsOf, zonesIn, zonesRead, zones-length, zones-at, placeFrom}
-use Rattle.layout.specs.Edges.{edgesAt, EdgesFound}
-use Rattle.layout.specs.Kinds.{Ready, ready, zone-some}
+use Rattle.layout.specs.Zones.{zones-length, zones-at, placeFrom}
+use Rattle.layout.specs.Found.{ZonesAre, headsOf, zones-are}
+use Rattle.layout.specs.Kinds.{zone-some}
+use Rattle.layout.specs.Rest.{mapAt, restOf, edgesIn, RestIs}
 
 -- the map in a file, or its refusal
 abbrev pub mapIn : List ℕ → Outcome Map
@@ -77,80 +75,6 @@ pub record MapIs (outcome : Outcome Map) (r : MapRead) (rows : List (List ℕ)) 
   pub entered : rows ≡ rowsOf (mapOr outcome .edges)
   pub shown : Shows rows (mapOr outcome .edges)
 
--- ---- the stages
-
-abbrev pub mapAt : ℕ → ZonesRead → ℕ → List Edge → Map
-mapAt n t z es = record { size = n; zones = zonesIn (headsOf t) (t .listed) z; edges = es }
-
--- edges and kinds, after the zones
-unfoldable pub restOf : List ℕ → ℕ → ZonesRead → ℕ → Outcome Map
-restOf p n t z = edgesOf n p (t .next) >>= (λ es. kindsFrom (mapAt n t z es) 0 (zonesIn (headsOf t) (t .listed) z) >> ok (mapAt n t z es))
-
-module _ (p : List ℕ) (c : CountsRead) (counts : countsOf p ≡ answered (c .fault) (countsIn c)) where
-  pub map-counts : soundOf (c .fault) ≡ false → (b : Map) → mapOf p ≡ answered (c .fault) b
-  unfolding mapOf
-  map-counts s b = relayed (countsOf p) (c .fault) (countsIn c) _ b counts s
-
-  module _ (s : soundOf (c .fault) ≡ true) (t : ZonesRead) (zones : ZonesFound p (c .vertices) (c .zones) t) where
-    pub map-zones : soundOf (t .fault) ≡ false → (b : Map) → mapOf p ≡ answered (t .fault) b
-    unfolding mapOf
-    map-zones q b = handed (countsOf p) (c .fault) (countsIn c) _ counts s ∙ relayed (zonesOf p (countsIn c)) (t .fault) (zonesRead t (c .zones)) _ b (zones .answer) q
-
-    pub map-rest : soundOf (t .fault) ≡ true → mapOf p ≡ restOf p (c .vertices) t (c .zones)
-    unfolding mapOf restOf
-    map-rest q = handed (countsOf p) (c .fault) (countsIn c) _ counts s ∙ handed (zonesOf p (countsIn c)) (t .fault) (zonesRead t (c .zones)) _ (zones .answer) q
-
-module _ (p : List ℕ) (n : ℕ) (t : ZonesRead) (z : ℕ) (f : MapFault) (es : List Edge) (edges : edgesOf n p (t .next) ≡ answered f es) where
-  pub rest-edges : soundOf f ≡ false → (b : Map) → restOf p n t z ≡ answered f b
-  unfolding restOf
-  rest-edges s b = relayed (edgesOf n p (t .next)) f es _ b edges s
-
-  module _ (s : soundOf f ≡ true) (g : MapFault) (kinds : kindsFrom (mapAt n t z es) 0 (zonesIn (headsOf t) (t .listed) z) ≡ answered g tt) where
-    pub rest-kinds : soundOf g ≡ false → (b : Map) → restOf p n t z ≡ answered g b
-    unfolding restOf
-    rest-kinds q b = handed (edgesOf n p (t .next)) f es _ edges s ∙ relayed-on (kindsFrom (mapAt n t z es) 0 (zonesIn (headsOf t) (t .listed) z)) g tt _ b kinds q
-
-    pub rest-good : soundOf g ≡ true → restOf p n t z ≡ ok (mapAt n t z es)
-    unfolding restOf
-    rest-good q = handed (edgesOf n p (t .next)) f es _ edges s ∙ handed-on (kindsFrom (mapAt n t z es) 0 (zonesIn (headsOf t) (t .listed) z)) g tt _ kinds q
-
--- the edges that were read
-abbrev pub edgesIn : List ℕ → ZonesRead → List Edge
-edgesIn file t = edgesAt file (t .next + 2) (wordAt file (t .next))
-
--- edges and kinds are read and tested, or refused
-pub record RestIs (file : List ℕ) (m n : ℕ) (t : ZonesRead) (z : ℕ) (rows : List (List ℕ)) (f : MapFault) : Type 0 where
-  pub answer : restOf (held file m) n t z ≡ answered f (mapAt n t z (edgesIn file t))
-  pub entered : soundOf f ≡ true → rows ≡ rowsOf (edgesIn file t)
-  pub shown : soundOf f ≡ true → Shows rows (edgesIn file t)
-
-module _ (file : List ℕ) (m n : ℕ) (t : ZonesRead) (z : ℕ) (small : n ≤ 128) (few : z ≤ 64) (found : ZonesFound (held file m) n z t) (zoned : soundOf (t .fault) ≡ true)
-    (rows : List (List ℕ)) (f : MapFault) (edges : EdgesFound file m n (t .next) blank rows f) where
-  pub rest-refused : soundOf f ≡ false → RestIs file m n t z rows f
-  rest-refused s = record { answer = rest-edges (held file m) n t z f (edgesIn file t) (edges .answer) s (mapAt n t z (edgesIn file t)); entered = λ q. not-both q s; shown = λ q. not-both q s }
-
-  module _ (s : soundOf f ≡ true) where
-    -- the zones may be tested
-    pub rest-ready : Ready rows (mapAt n t z (edgesIn file t)) (headsOf t) (t .listed) (t .zone) z
-    rest-ready = ready (held file m) n z small few (headsOf t) (t .listed) (t .zone) (t .place) (t .next) (found .read zoned) (found .tables zoned) rows (wordAt file (t .next)) (t .next + 2)
-        (edgesIn file t) (edges .read s) (edges .shown s shows-none)
-
-    module _ (g : MapFault) (kinds : kindsFrom (mapAt n t z (edgesIn file t)) 0 (zonesIn (headsOf t) (t .listed) z) ≡ answered g tt) where
-      pub rest-tested : RestIs file m n t z rows g
-      rest-tested = go (soundOf g) refl
-        where
-          go : (b : Bool) → soundOf g ≡ b → RestIs file m n t z rows g
-          go true q = record {
-            answer = rest-good (held file m) n t z f (edgesIn file t) (edges .answer) s g kinds q ∙ ap (λ (x : MapFault). answered x (mapAt n t z (edgesIn file t))) (sym (sound-none g q));
-            entered = λ _. edges .entered s;
-            shown = λ _. edges .shown s shows-none;
-          }
-          go false q = record {
-            answer = rest-kinds (held file m) n t z f (edgesIn file t) (edges .answer) s g kinds q (mapAt n t z (edgesIn file t));
-            entered = λ w. not-both w q;
-            shown = λ w. not-both w q;
-          }
-
 -- ---- the map
 
 -- the outcome of a refusal
@@ -179,7 +103,7 @@ made n z t = record {
   place = t .place;
 }
 
-made-held : (p : List ℕ) (n z : ℕ) (t : ZonesRead) (es : List Edge) → n ≤ 128 → z ≤ 64 → ZonesFound p n z t → soundOf (t .fault) ≡ true → MapHeld (made n z t) (mapAt n t z es)
+made-held : (p : List ℕ) (n z : ℕ) (t : ZonesRead) (es : List Edge) → n ≤ 128 → z ≤ 64 → ZonesAre p n z t → soundOf (t .fault) ≡ true → MapHeld (made n z t) (mapAt n t z es)
 unfolding zoneOf zoneAt placeFrom
 made-held p n z t es small few found zoned = record {
   size = refl;
@@ -187,7 +111,7 @@ made-held p n z t es small few found zoned = record {
   count = sym (zones-length (headsOf t) (t .listed) z);
   few = few;
   zone-at = λ j l. zones-at (headsOf t) (t .listed) z j l;
-  some = λ j l. zone-some p n z small few (headsOf t) (t .listed) (t .zone) (t .place) (t .next) (found .read zoned) (found .tables zoned) j l;
+  some = λ j l. zone-some p n z small few (headsOf t) (t .listed) (t .zone) (t .place) (t .next) (zones-are p n z small t found zoned) (found .tables zoned) j l;
   inside = found .tables zoned .inside;
   zone-of = found .tables zoned .zoned;
   place-of = found .tables zoned .placed;
@@ -200,7 +124,7 @@ made-held p n z t es small few found zoned = record {
 }
 
 -- the outcome of an accepted map
-pub made-is : (file : List ℕ) (m n z : ℕ) (t : ZonesRead) → n ≤ 128 → z ≤ 64 → ZonesFound (held file m) n z t → soundOf (t .fault) ≡ true
+pub made-is : (file : List ℕ) (m n z : ℕ) (t : ZonesRead) → n ≤ 128 → z ≤ 64 → ZonesAre (held file m) n z t → soundOf (t .fault) ≡ true
     → (outcome : Outcome Map) → outcome ≡ restOf (held file m) n t z → (rows : List (List ℕ)) (f : MapFault) → RestIs file m n t z rows f → soundOf f ≡ true → LayoutIs outcome (made n z t) rows
 made-is file m n z t small few found zoned outcome e rows f rest s =
     let x : outcome ≡ ok (mapAt n t z (edgesIn file t)) = e ∙ given (restOf (held file m) n t z) f (mapAt n t z (edgesIn file t)) (rest .answer) s in

@@ -1,30 +1,59 @@
 // The edges of a map, entered into the rows.
 use crate::MapFault;
 ghost use mathlib.Core.Path.{_≡_};
-ghost use Prim.Native.Nat.{ℕ, _+_, _*_, _<_, _≤_};
-ghost use lib.ListN.{getD};
+ghost use Prim.Native.Nat.{ℕ, _+_, _-_, _/_, _<_, _≤_, min};
+ghost use lib.Dec.{ltb};
 ghost use Rattle.wire.specs.Payload.{placeOf};
-ghost use Rattle.layout.specs.Edges.{EdgesAre, EdgesFound};
+ghost use Rattle.layout.specs.Edges.{PlacesAre, EdgesAre, CountAt, EdgesFound};
 
-// Byte `at` of the file; 0 past its end.
-fn byte_at(file: &[u8], at: usize) -> u8
-    ensures { λ r. ⌜ r ≡ getD (now (file .entry)) at 0 ⌝ }
-{
-    if at < file.len() {
-        return file[at];
-    }
-    0
+// Where the second byte of a pair of payload bytes stands, and where the next pair begins.
+pub struct Pair {
+    pub behind: usize,
+    pub next: usize,
 }
 
 // Where the next payload byte stands: a block's last is its byte 509, and the next block's first is its byte 6.
 fn next_place(at: usize) -> usize
     requires { ⌜ at ≤ 1000000 ⌝ }
-    ensures { λ r. ⌜ ((off : ℕ) → at ≡ placeOf off → r ≡ placeOf (off + 1)) ⌝ }
+    ensures { λ r. ⌜ (at < r) × (r ≤ at + 9) × ((off : ℕ) → at ≡ placeOf off → r ≡ placeOf (off + 1)) ⌝ }
 {
     if at % 512 == 509 {
         return at + 9;
     }
     at + 1
+}
+
+// The places after `at`: one test where the pair and the next one's first byte stand in one block.
+fn places(at: usize) -> Pair
+    requires { ⌜ at ≤ 900000 ⌝ }
+    ensures { λ r. ⌜ PlacesAre at (r .behind) (r .next) ⌝ }
+{
+    if at % 512 < 508 {
+        return Pair {
+            behind: at + 1,
+            next: at + 2,
+        };
+    }
+    let behind = next_place(at);
+    let next = next_place(behind);
+    Pair {
+        behind: behind,
+        next: next,
+    }
+}
+
+// How many of e pairs of bytes, from offset `from` on, stand whole in a payload of m bytes.
+fn whole_pairs(e: usize, from: usize, m: usize) -> usize
+    ensures { λ r. ⌜ r ≡ min e ((m - from) / 2) ⌝ }
+{
+    if m <= from {
+        return 0;
+    }
+    let most = (m - from) / 2;
+    if most < e {
+        return most;
+    }
+    e
 }
 
 // Reads e edges from offset `from` on.
@@ -39,21 +68,19 @@ fn read_edges(
     requires { ⌜ (n ≤ 128) × (e ≤ 2048) × (from ≤ 65536) ⌝ }
     ensures { λ r. ⌜ EdgesAre (now (file .entry)) m n e from (now (rows .entry)) (now (rows .exit)) r ⌝ }
 {
+    let whole = whole_pairs(e, from, m);
     let mut at = from / 504 * 512 + 6 + from % 504;
     let mut k: usize = 0;
     let mut least: usize = 0;
-    while k < e {
+    while k < whole {
         let o = from + k * 2;
-        if o >= m {
-            return MapFault::Short(o);
+        let pair = places(at);
+        let behind = pair.behind;
+        if behind >= file.len() {
+            return MapFault::Edge(o);
         }
-        let q = o + 1;
-        if q >= m {
-            return MapFault::Short(q);
-        }
-        let a = byte_at(file, at);
-        let behind = next_place(at);
-        let b = byte_at(file, behind);
+        let a = file[at];
+        let b = file[behind];
         if b <= a {
             return MapFault::Edge(o);
         }
@@ -65,23 +92,60 @@ fn read_edges(
             return MapFault::Edge(o);
         }
         adjacency::add_edge(rows, numbering::Vertex(a), numbering::Vertex(b));
-        at = next_place(behind);
+        at = pair.next;
         least = key + 1;
         k += 1;
+    }
+    if k >= e {
+        return MapFault::None;
+    }
+    let end = from + k * 2;
+    if end >= m {
+        return MapFault::Short(end);
+    }
+    MapFault::Short(end + 1)
+}
+
+// Does the payload of m bytes hold two bytes at offset o?
+fn holds_word(m: usize, o: usize) -> bool
+    requires { ⌜ m ≤ 65000 ⌝ }
+    ensures { λ r. ⌜ r ≡ ltb (o + 1) m ⌝ }
+{
+    if o >= m {
+        return false;
+    }
+    o + 1 < m
+}
+
+// The tests before the edge count is read, in order: every vertex has a zone; the count's two bytes are there.
+fn before_count(covered: bool, there: bool, o: usize) -> MapFault
+    ensures { λ r. ⌜ CountAt covered there o r ⌝ }
+{
+    if !covered {
+        return MapFault::Listing(o);
+    }
+    if !there {
+        return MapFault::Short(o);
     }
     MapFault::None
 }
 
-// Reads the edge count at offset o and the edges behind it, to the payload's end.
-pub fn edges_of(file: &[u8], m: usize, n: usize, o: usize, rows: &mut [[u64; 2]; 128]) -> MapFault
+// Reads the edge count at offset o, where the zones list every vertex, and the edges behind it, to the payload's end.
+pub fn edges_of(
+    file: &[u8],
+    m: usize,
+    n: usize,
+    covered: bool,
+    o: usize,
+    rows: &mut [[u64; 2]; 128],
+) -> MapFault
     requires { ⌜ (n ≤ 128) × (m ≤ 65000) ⌝ }
-    ensures { λ r. ⌜ EdgesFound (now (file .entry)) m n o (now (rows .entry)) (now (rows .exit)) r ⌝ }
+    ensures { λ r. ⌜ EdgesFound (now (file .entry)) m n covered o (now (rows .entry)) (now (rows .exit)) r ⌝ }
 {
-    if o >= m {
-        return MapFault::Short(o);
-    }
-    if o + 1 >= m {
-        return MapFault::Short(o);
+    let there = holds_word(m, o);
+    let early = before_count(covered, there, o);
+    if !crate::sound(early) {
+        return early;
     }
     let e = wire::payload_word(file, o);
     if e > 2048 {

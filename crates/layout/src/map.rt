@@ -9,9 +9,11 @@ ghost use Rattle.spec.specs.Layout.{Map, kindsFrom, mapOf};
 ghost use Rattle.adjacency.specs.Rows.{blank};
 ghost use Rattle.layout.specs.Fault.{answered, soundOf};
 ghost use Rattle.layout.specs.Bytes.{held};
-ghost use Rattle.layout.specs.Zones.{headsOf, zonesIn, ZonesFound};
+ghost use Rattle.layout.specs.Zones.{zonesIn};
+ghost use Rattle.layout.specs.Found.{headsOf, ZonesAre};
 ghost use Rattle.layout.specs.Kinds.{Ready};
-ghost use Rattle.layout.specs.Map.{mapIn, Nothing, RestIs, LayoutIs, MapIs};
+ghost use Rattle.layout.specs.Map.{mapIn, Nothing, LayoutIs, MapIs};
+ghost use Rattle.layout.specs.Rest.{RestIs};
 
 // The lowest zone that is not of its kind.
 fn test_kinds(rows: &[[u64; 2]; 128], read: ZonesRead, count: usize) -> MapFault
@@ -51,10 +53,11 @@ fn read_rest(
     rows: &mut [[u64; 2]; 128],
 ) -> MapFault
     requires { ⌜ (m ≤ 65000) × (n ≤ 128) × (z ≤ 64) ⌝ }
-    requires { ⌜ ZonesFound (held (now file) m) n z read × (soundOf (read .fault) ≡ true) × (now rows ≡ blank) ⌝ }
+    requires { ⌜ ZonesAre (held (now file) m) n z read × (soundOf (read .fault) ≡ true) × (now rows ≡ blank) ⌝ }
     ensures { λ r. ⌜ RestIs (now (file .entry)) m n read z (now (rows .exit)) r ⌝ }
 {
-    let fault = crate::edges::edges_of(file, m, n, read.next, rows);
+    let covered = crate::zones::covered(&read.zone, n);
+    let fault = crate::edges::edges_of(file, m, n, covered, read.next, rows);
     if !crate::sound(fault) {
         return fault;
     }
@@ -90,7 +93,7 @@ fn read_layout(file: &[u8], m: usize, rows: &mut [[u64; 2]; 128]) -> MapRead
     }
     let n = counts.vertices;
     let z = counts.zones;
-    let read = crate::zones::zones_of(file, m, n as usize, z as usize);
+    let read = crate::zones::read_zones(file, m, n as usize, z as usize);
     let unzoned = read.fault;
     if !crate::sound(unzoned) {
         return refused(unzoned);

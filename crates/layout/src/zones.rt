@@ -8,8 +8,9 @@ ghost use lib.ListN.{getD};
 ghost use lib.Dec.{eqb};
 ghost use Rattle.spec.specs.Outcome.{below};
 ghost use Rattle.layout.specs.Bytes.{held};
-ghost use Rattle.layout.specs.Table.{Rep};
-ghost use Rattle.layout.specs.Zones.{VerticesAre, ZonesAre, ZonesFound, tableOf};
+ghost use Rattle.layout.specs.Table.{Rep, tableOf};
+ghost use Rattle.layout.specs.Vertices.{VerticesAre};
+ghost use Rattle.layout.specs.Found.{ZonesAre};
 
 // Reads the `size` vertices of zone z from offset `from` on, behind the `used` that are listed.
 fn read_vertices(
@@ -51,7 +52,7 @@ fn read_vertices(
     MapFault::None
 }
 
-pub fn no_zones(fault: MapFault) -> ZonesRead
+fn no_zones(fault: MapFault) -> ZonesRead
     ensures { λ r. ⌜ r .fault ≡ fault ⌝ }
 {
     ZonesRead {
@@ -67,7 +68,7 @@ pub fn no_zones(fault: MapFault) -> ZonesRead
 }
 
 // Reads z zones from offset 2 on.
-fn read_zones(file: &[u8], m: usize, n: usize, z: usize) -> ZonesRead
+pub fn read_zones(file: &[u8], m: usize, n: usize, z: usize) -> ZonesRead
     requires { ⌜ (n ≤ 128) × (z ≤ 64) ⌝ }
     ensures { λ r. ⌜ ZonesAre (held (now (file .entry)) m) n z r ⌝ }
 {
@@ -122,7 +123,7 @@ fn read_zones(file: &[u8], m: usize, n: usize, z: usize) -> ZonesRead
 }
 
 // Has every vertex below n a zone?
-fn covered(zone: &[u8; 128], n: usize) -> bool
+pub fn covered(zone: &[u8; 128], n: usize) -> bool
     requires { ⌜ n ≤ 128 ⌝ }
     ensures { λ r. ⌜ r ≡ below (λ v. not (eqb (getD (now (zone .entry)) v 0) 255)) n ⌝ }
 {
@@ -135,20 +136,4 @@ fn covered(zone: &[u8; 128], n: usize) -> bool
         }
     }
     true
-}
-
-// Reads z zones, which list every vertex below n.
-pub fn zones_of(file: &[u8], m: usize, n: usize, z: usize) -> ZonesRead
-    requires { ⌜ (n ≤ 128) × (z ≤ 64) ⌝ }
-    ensures { λ r. ⌜ ZonesFound (held (now (file .entry)) m) n z r ⌝ }
-{
-    let read = read_zones(file, m, n, z);
-    let fault = read.fault;
-    if !crate::sound(fault) {
-        return read;
-    }
-    if covered(&read.zone, n) {
-        return read;
-    }
-    no_zones(MapFault::Listing(read.next))
 }

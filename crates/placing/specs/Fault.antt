@@ -1,8 +1,8 @@
 -- Document 01's number and place for each refusal of a placing.
-use mathlib.Core.Path.{_≡_, refl, ap, sym, _∙_}
+use mathlib.Core.Path.{_≡_, refl, ap}
 use mathlib.Core.Bool.{Bool, true, false}
-use Prim.Native.Nat.{ℕ}
 use Rattle.spec.specs.Outcome.{Outcome, ok, refuse, _>>=_}
+use Rattle.layout.specs.Chain.{Refused, hand, relay}
 use Rattle.layout.specs.Fault.{not-both}
 use Rattle.placing.specs.declared.PlacingFault.{PlacingFault}
 use Rattle.placing.specs.declared.PlacingFault.the-variants.{None, Length, Checksum, Head, Fill, Short, Range, Start, Goal}
@@ -30,13 +30,11 @@ soundOf Range = false
 soundOf (Start offset) = false
 soundOf (Goal offset) = false
 
--- a fault's number and place, whatever was to be read
-pub record Refused (f : PlacingFault) : Type 1 where
-  pub number : ℕ
-  pub place : ℕ
-  pub is : {A : Type 0} (a : A) → answered f a ≡ refuse number place
+abbrev answers : (A : Type 0) → PlacingFault → A → Outcome A
+answers A f a = answered f a
 
-pub refused : (f : PlacingFault) → soundOf f ≡ false → Refused f
+-- a fault's number and place, whatever was to be read
+pub refused : (f : PlacingFault) → soundOf f ≡ false → Refused answers f
 refused None s = not-both refl s
 refused Length s = record { number = 21; place = 0; is = λ a. refl }
 refused (Checksum i) s = record { number = 22; place = i; is = λ a. refl }
@@ -59,13 +57,11 @@ sound-none Range e = not-both e refl
 sound-none (Start o) e = not-both e refl
 sound-none (Goal o) e = not-both e refl
 
-module _ {A B : Type 0} where
+module _ {A B : Type 0} (o : Outcome A) (f : PlacingFault) (a : A) where
   -- a step that gives a value hands it on
-  pub handed : (o : Outcome A) (f : PlacingFault) (a : A) (g : A → Outcome B) → o ≡ answered f a → soundOf f ≡ true → (o >>= g) ≡ g a
-  unfolding _>>=_
-  handed o f a g e s = rw (e, sound-none f s)
+  pub handed : (g : A → Outcome B) → o ≡ answered f a → soundOf f ≡ true → (o >>= g) ≡ g a
+  handed g e s = hand answers o f a e (ap (λ (x : PlacingFault). answered x a) (sound-none f s)) g
 
   -- a step that is refused ends the chain
-  pub relayed : (o : Outcome A) (f : PlacingFault) (a : A) (g : A → Outcome B) (b : B) → o ≡ answered f a → soundOf f ≡ false → (o >>= g) ≡ answered f b
-  unfolding _>>=_
-  relayed o f a g b e s = let r = refused f s in ap (λ (x : Outcome A). x >>= g) (e ∙ r .is a) ∙ sym (r .is b)
+  pub relayed : (g : A → Outcome B) (b : B) → o ≡ answered f a → soundOf f ≡ false → (o >>= g) ≡ answered f b
+  relayed g b e s = relay answers o f a e (refused f s) g b

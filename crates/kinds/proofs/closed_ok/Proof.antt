@@ -5,6 +5,7 @@ use mathlib.Core.Path.{_≡_, refl, ap, sym, _∙_}
 use lib.ListN.{getD}
 use borrow.Author.Tests.{not-true, not-false}
 use Rattle.spec.specs.Outcome.{below}
+use Rattle.kinds.specs.Marks.{apart-zone}
 use Rattle.kinds.specs.Tests.{innerTest, laterTest, below-more, below-not}
 use Rattle.kinds.proofs.closed_ok.Statement.{statement}
 use Rattle.kinds.proofs.closed_ok.Tie as tie
@@ -33,8 +34,8 @@ add-v c = search needs
 element-copy-out-v : tie.Need-element-copy-out-v Inv-loop μ-loop
 element-copy-out-v c = search needs
 
-inner-ok-requires : tie.Need-inner-ok-requires Inv-loop μ-loop
-inner-ok-requires c κs = search needs
+apart-requires : tie.Need-apart-requires Inv-loop μ-loop
+apart-requires c κs = search needs
 
 returns : tie.Need-returns Inv-loop μ-loop
 returns c =
@@ -42,7 +43,7 @@ returns c =
     let o = c .before .before .before .before .loop in
     let p : o .i - 1 - 1 + 1 ≡ o .i - 1 = omega arith in
     let e = ap (λ (x : ℕ). innerTest (a .rows .now) (a .zone .now) (a .z) (getD (a .listed .now) (a .first + x) 0)) p in
-    sym (below-not (laterTest (a .rows .now) (a .listed .now) (a .zone .now) (a .z) (a .first)) (o .i - 1) (omega arith) (e ∙ sym (c .before .inner-ok .ensures (a .zone .now) (a .z) (c .before .before .before .before .before .before .outside .ensures) (c .before .before .before .before .before .outside2 .ensures)) ∙ not-true _ (c .if1 .taken))) ∙ o .inv .1
+    sym (below-not (laterTest (a .rows .now) (a .listed .now) (a .zone .now) (a .z) (a .first)) (o .i - 1) (omega arith) (e ∙ sym (c .before .apart .ensures ∙ apart-zone (a .rows .now) (a .zone .now) (a .z) (getD (a .listed .now) (a .first + (o .i - 1)) 0) _ _ (c .before .before .before .before .before .before .outside .ensures) (c .before .before .before .before .before .outside2 .ensures)) ∙ not-true _ (c .if1 .taken))) ∙ o .inv .1
 
 loop-less : tie.Need-loop-less Inv-loop μ-loop
 loop-less c = search needs
@@ -53,7 +54,7 @@ loop-again c =
     let o = c .before .before .before .before .loop in
     let p : o .i - 1 - 1 + 1 ≡ o .i - 1 = omega arith in
     let e = ap (λ (x : ℕ). innerTest (a .rows .now) (a .zone .now) (a .z) (getD (a .listed .now) (a .first + x) 0)) p in
-    (search needs, sym (below-more (laterTest (a .rows .now) (a .listed .now) (a .zone .now) (a .z) (a .first)) (o .i - 1) (omega arith) (e ∙ sym (c .before .inner-ok .ensures (a .zone .now) (a .z) (c .before .before .before .before .before .before .outside .ensures) (c .before .before .before .before .before .outside2 .ensures)) ∙ not-false _ (c .if1 .left))) ∙ o .inv .1)
+    (search needs, sym (below-more (laterTest (a .rows .now) (a .listed .now) (a .zone .now) (a .z) (a .first)) (o .i - 1) (omega arith) (e ∙ sym (c .before .apart .ensures ∙ apart-zone (a .rows .now) (a .zone .now) (a .z) (getD (a .listed .now) (a .first + (o .i - 1)) 0) _ _ (c .before .before .before .before .before .before .outside .ensures) (c .before .before .before .before .before .outside2 .ensures)) ∙ not-false _ (c .if1 .left))) ∙ o .inv .1)
 
 returns-2 : tie.Need-returns-2 Inv-loop μ-loop
 unfolding below
@@ -74,7 +75,7 @@ closed-ok-spec =
     sub-i
     add-v
     element-copy-out-v
-    inner-ok-requires
+    apart-requires
     returns
     loop-less
     loop-again

@@ -5,7 +5,8 @@ use borrow.Author.Tests.{not-true, not-false}
 use Rattle.layout.specs.Fault.{given}
 use Rattle.layout.specs.Bytes.{held}
 use Rattle.layout.specs.Heads.{countsIn, counts-range}
-use Rattle.layout.specs.Map.{noMap, mapAt, edgesIn, map-counts, map-zones, map-rest, nothing-is, made-is}
+use Rattle.layout.specs.Rest.{mapAt, edgesIn, map-counts, map-zones, map-rest}
+use Rattle.layout.specs.Map.{noMap, nothing-is, made-is}
 use Rattle.layout.proofs.map.read_layout.Statement.{statement}
 use Rattle.layout.proofs.map.read_layout.Tie as tie
 
@@ -25,14 +26,14 @@ returns c =
     let s = sym (c .before .before .sound .ensures) ∙ not-true _ (c .before .if1 .taken) in
     nothing-is _ (k .result .fault) noMap _ _ (map-counts (held (a .file .now) (a .m)) (k .result) (k .ensures) s noMap) s (c .refused .ensures)
 
-cast-zones-of : tie.Need-cast-zones-of
-cast-zones-of c = search needs
+cast-read-zones : tie.Need-cast-read-zones
+cast-read-zones c = search needs
 
-cast-zones-of-2 : tie.Need-cast-zones-of-2
-cast-zones-of-2 c = search needs
+cast-read-zones-2 : tie.Need-cast-read-zones-2
+cast-read-zones-2 c = search needs
 
-zones-of-requires : tie.Need-zones-of-requires
-zones-of-requires c κs =
+read-zones-requires : tie.Need-read-zones-requires
+read-zones-requires c κs =
     let k = c .before .before .read-counts in
     let s = sym (c .before .sound .ensures) ∙ not-false _ (c .if1 .left) in
     let w = counts-range _ (countsIn (k .result)) (given _ (k .result .fault) (countsIn (k .result)) (k .ensures) s) in
@@ -49,7 +50,7 @@ returns-2 c =
     let a = c .before .before .before .before .before .before .before .before .args in
     let k = c .before .before .before .before .before .before .read-counts in
     let s = sym (c .before .before .before .before .before .sound .ensures) ∙ not-false _ (c .before .before .before .before .if1 .left) in
-    let z = c .before .before .before .zones-of in
+    let z = c .before .before .before .read-zones in
     let t = sym (c .before .before .sound2 .ensures) ∙ not-true _ (c .before .if2 .taken) in
     nothing-is _ (z .result .fault) noMap _ _ (map-zones (held (a .file .now) (a .m)) (k .result) (k .ensures) s (z .result) (z .ensures) t noMap) t (c .refused2 .ensures)
 
@@ -64,7 +65,7 @@ read-rest-requires c κs =
     let k = c .before .before .before .before .before .before .read-counts in
     let s = sym (c .before .before .before .before .before .sound .ensures) ∙ not-false _ (c .before .before .before .before .if1 .left) in
     let w = counts-range _ (countsIn (k .result)) (given _ (k .result .fault) (countsIn (k .result)) (k .ensures) s) in
-    ((c .before .before .before .before .before .before .before .before .pre .0, w .0, w .1), (c .before .before .before .zones-of .ensures, sym (c .before .before .sound2 .ensures) ∙ not-false _ (c .before .if2 .left), c .before .before .before .before .before .before .before .before .pre .1))
+    ((c .before .before .before .before .before .before .before .before .pre .0, w .0, w .1), (c .before .before .before .read-zones .ensures, sym (c .before .before .sound2 .ensures) ∙ not-false _ (c .before .if2 .left), c .before .before .before .before .before .before .before .before .pre .1))
 
 sound-requires-3 : tie.Need-sound-requires-3
 sound-requires-3 c κs = search needs
@@ -77,7 +78,7 @@ returns-3 c =
     let a = c .before .before .before .before .before .before .before .before .before .before .before .before .args in
     let k = c .before .before .before .before .before .before .before .before .before .before .read-counts in
     let s = sym (c .before .before .before .before .before .before .before .before .before .sound .ensures) ∙ not-false _ (c .before .before .before .before .before .before .before .before .if1 .left) in
-    let z = c .before .before .before .before .before .before .before .zones-of in
+    let z = c .before .before .before .before .before .before .before .read-zones in
     let t = sym (c .before .before .before .before .before .before .sound2 .ensures) ∙ not-false _ (c .before .before .before .before .before .if2 .left) in
     let r = c .before .before .before .read-rest in
     let u = sym (c .before .before .sound3 .ensures) ∙ not-true _ (c .before .if3 .taken) in
@@ -90,7 +91,7 @@ returns-4 c =
     let k = c .before .before .before .before .before .before .before .before .before .before .before .before .before .before .before .read-counts in
     let s = sym (c .before .before .before .before .before .before .before .before .before .before .before .before .before .before .sound .ensures) ∙ not-false _ (c .before .before .before .before .before .before .before .before .before .before .before .before .before .if1 .left) in
     let w = counts-range _ (countsIn (k .result)) (given _ (k .result .fault) (countsIn (k .result)) (k .ensures) s) in
-    let z = c .before .before .before .before .before .before .before .before .before .before .before .before .zones-of in
+    let z = c .before .before .before .before .before .before .before .before .before .before .before .before .read-zones in
     let t = sym (c .before .before .before .before .before .before .before .before .before .before .before .sound2 .ensures) ∙ not-false _ (c .before .before .before .before .before .before .before .before .before .before .if2 .left) in
     let r = c .before .before .before .before .before .before .before .before .read-rest in
     let u = sym (c .before .before .before .before .before .before .before .sound3 .ensures) ∙ not-false _ (c .before .before .before .before .before .before .if3 .left) in
@@ -105,9 +106,9 @@ read-layout-spec =
     sound-requires
     refused-requires
     returns
-    cast-zones-of
-    cast-zones-of-2
-    zones-of-requires
+    cast-read-zones
+    cast-read-zones-2
+    read-zones-requires
     sound-requires-2
     refused-requires-2
     returns-2

@@ -3,8 +3,8 @@ use native.Mathlib.Omega.{arith}
 use Prim.Native.Nat.{ℕ, _+_, _-_, _≤_, _<_}
 use mathlib.Core.Path.{_≡_, refl, ap}
 use Rattle.layout.specs.Fault.{not-both}
-use Rattle.layout.specs.Table.{Going, space, entry-same, going-start, going-more, going-short, going-over, going-twice, going-end}
-use Rattle.layout.specs.Zones.{tableOf}
+use Rattle.layout.specs.Table.{tableOf, entry-same}
+use Rattle.layout.specs.Vertices.{Going, space, going-start, going-more, going-short, going-over, going-twice, going-end}
 use Rattle.layout.proofs.zones.read_vertices.Statement.{statement}
 use Rattle.layout.proofs.zones.read_vertices.Tie as tie
 

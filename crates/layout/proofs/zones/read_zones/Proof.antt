@@ -6,8 +6,10 @@ use borrow.Author.Tests.{not-true, not-false}
 use Rattle.layout.specs.Fault.{given}
 use Rattle.layout.specs.Bytes.{held}
 use Rattle.layout.specs.Heads.{headIn}
-use Rattle.layout.specs.Table.{Table, seen}
-use Rattle.layout.specs.Zones.{GoingAll, tableOf, headsAt, zonesRead, zones-refused, all-head, all-vertices, all-more, all-start, all-end, all-held}
+use Rattle.layout.specs.Table.{Table, seen, tableOf}
+use Rattle.layout.specs.Zones.{headsAt}
+use Rattle.layout.specs.Reading.{GoingAll, all-head, all-vertices, all-more, all-start, all-end}
+use Rattle.layout.specs.Found.{zonesRead, zones-refused, all-held}
 use Rattle.layout.proofs.zones.read_zones.Statement.{statement}
 use Rattle.layout.proofs.zones.read_zones.Tie as tie
 
