@@ -94,6 +94,11 @@ free-half k a h = pick (64 - k) (drop k a) (omega arith)
     pick : (n : ℕ) (b : Arrangement) → n ≤ 63 → freeWord n b < 2 ^ 63
     pick n b l = lt-of-lt-of-le (free-fits n b) (pow-le-pow-right (omega arith) l)
 
+-- a number that is not zero
+not-zero : (x : ℕ) → x ≢ 0 → x ≡ suc (x - 1)
+not-zero zero n = absurd (n refl)
+not-zero (suc x) n = omega arith
+
 -- no place, no bit
 pub free-none : (n : ℕ) → freeWord n [] ≡ 0
 unfolding freeWord
@@ -111,6 +116,40 @@ free-seek (suc n) (suc r ∷ a) p =
     let d : (freeWord n a * 2) / 2 ≡ freeWord n a = omega arith in
     rw (e, d) (ap suc (free-seek n a (omega arith)) ∙ sym (seek-other 0 (suc r) a (λ q. omega arith)))
 
+-- ---- the free word, built from the last place down
+
+module _ (a : Arrangement) where
+  -- at the start no place has been looked at
+  pub free-start : (k : ℕ) → k ≡ min (length a) 64 → 0 ≡ freeWord (64 - k) (drop k a)
+  unfolding freeWord
+  free-start k e = pick (decLt (length a) 64)
+    where
+      pick : Dec (length a < 64) → 0 ≡ freeWord (64 - k) (drop k a)
+      pick (yes h) = sym (ap (freeWord (64 - k)) (drop-of-length-le a {i = k} (omega arith)) ∙ free-none (64 - k))
+      pick (no h) = let d : 64 - k ≡ 0 = omega arith in sym (ap (λ (n : ℕ). freeWord n (drop k a)) d)
+
+  -- the place before place k
+  free-before : (k : ℕ) → 0 < k → k ≤ length a → k ≤ 64
+      → freeWord (64 - (k - 1)) (drop (k - 1) a) ≡ freeWord (suc (64 - k)) (cell a (k - 1) ∷ drop k a)
+  free-before k p h l =
+      let d : 64 - (k - 1) ≡ suc (64 - k) = omega arith in
+      let e : suc (k - 1) ≡ k = omega arith in
+      ap₂ freeWord d (drop-cons a (k - 1) 0 (omega arith) ∙ ap (λ (i : ℕ). cell a (k - 1) ∷ drop i a) e)
+
+  -- it is empty: one bit more
+  pub free-empty : (k w : ℕ) → 0 < k → k ≤ length a → k ≤ 64 → w ≡ freeWord (64 - k) (drop k a) → cell a (k - 1) ≡ 0
+      → w * 2 + 1 ≡ freeWord (64 - (k - 1)) (drop (k - 1) a)
+  unfolding freeWord
+  free-empty k w p h l e d = sym (free-before k p h l ∙ ap (λ (x : ℕ). freeWord (suc (64 - k)) (x ∷ drop k a)) d ∙ ap (λ (v : ℕ). v * 2 + 1) (sym e))
+
+  -- it is taken: none
+  pub free-taken : (k w : ℕ) → 0 < k → k ≤ length a → k ≤ 64 → w ≡ freeWord (64 - k) (drop k a) → cell a (k - 1) ≢ 0
+      → w * 2 ≡ freeWord (64 - (k - 1)) (drop (k - 1) a)
+  unfolding freeWord
+  free-taken k w p h l e n =
+      let d : cell a (k - 1) ≡ suc (cell a (k - 1) - 1) = not-zero (cell a (k - 1)) n in
+      sym (free-before k p h l ∙ ap (λ (x : ℕ). freeWord (suc (64 - k)) (x ∷ drop k a)) d ∙ ap (λ (v : ℕ). v * 2) (sym e))
+
 -- robot 255 is nowhere
 pub seek-nobody : (s : State) (vs : List ℕ) (r : ℕ) → r ≡ 255 → length vs ≡ seek (suc r) (arrangementOf s vs)
 unfolding arrangementOf seek
@@ -126,6 +165,13 @@ module _ (s : State) (vs : List ℕ) where
 
   pub robot-past : (j : ℕ) → length vs ≤ j → cellOf 255 ≡ cell (arrangementOf s vs) j
   robot-past j h = cell-none refl ∙ sym (List·getD-eq-default (arrangementOf s vs) 0 (omega (arith, arrangement-length s vs)))
+
+  -- a place on which nobody stands is empty, any other is not
+  pub empty-here : (j r : ℕ) → j < length vs → r ≡ robotOn s (getD vs j 0) → r ≡ 255 → cell (arrangementOf s vs) j ≡ 0
+  empty-here j r h e n = sym (robot-here j r h e) ∙ cell-none n
+
+  pub taken-here : (j r : ℕ) → j < length vs → r ≡ robotOn s (getD vs j 0) → r ≢ 255 → cell (arrangementOf s vs) j ≢ 0
+  taken-here j r h e n z = let d : suc r ≡ 0 = sym (cell-of n) ∙ robot-here j r h e ∙ z in omega arith
 
   -- a search from place i on: found, one place further, at the end
   pub seek-here : (i r x : ℕ) → i < length vs → x ≡ robotOn s (getD vs i 0) → r ≡ x → i ≡ i + seek (cellOf r) (drop i (arrangementOf s vs))
@@ -148,32 +194,3 @@ module _ (s : State) (vs : List ℕ) where
   pub seek-none : (i r : ℕ) → length vs ≤ i → i ≡ i + seek (cellOf r) (drop i (arrangementOf s vs))
   unfolding seek
   seek-none i r h = omega (arith, ap (seek (cellOf r)) (drop-of-length-le (arrangementOf s vs) {i = i} (omega (arith, arrangement-length s vs))))
-
-  -- one place more in the word, empty or taken
-  pub free-empty : (k r : ℕ) → k < length vs → k < 64 → r ≡ robotOn s (getD vs k 0) → r ≡ 255
-      → freeWord (64 - k) (drop k (arrangementOf s vs)) ≡ freeWord (64 - (k + 1)) (drop (k + 1) (arrangementOf s vs)) * 2 + 1
-  unfolding freeWord
-  free-empty k r h l e n =
-      let d : 64 - k ≡ suc (64 - (k + 1)) = omega arith in
-      ap₂ freeWord d (arrangement-next s vs k r h e ∙ ap (λ (x : ℕ). x ∷ drop (k + 1) (arrangementOf s vs)) (cell-none n))
-
-  pub free-taken : (k r : ℕ) → k < length vs → k < 64 → r ≡ robotOn s (getD vs k 0) → r ≢ 255
-      → freeWord (64 - k) (drop k (arrangementOf s vs)) ≡ freeWord (64 - (k + 1)) (drop (k + 1) (arrangementOf s vs)) * 2
-  unfolding freeWord
-  free-taken k r h l e n =
-      let d : 64 - k ≡ suc (64 - (k + 1)) = omega arith in
-      ap₂ freeWord d (arrangement-next s vs k r h e ∙ ap (λ (x : ℕ). x ∷ drop (k + 1) (arrangementOf s vs)) (cell-of n))
-
-  -- before the last of the first 64 places the word is empty
-  pub free-end : (k : ℕ) → (k ≡ 64) ⊎ (length vs ≤ k) → 0 ≡ freeWord (64 - k) (drop k (arrangementOf s vs))
-  unfolding freeWord
-  free-end k (inl e) = let d : 64 - k ≡ 0 = omega arith in sym (ap (λ (n : ℕ). freeWord n (drop k (arrangementOf s vs))) d)
-  free-end k (inr h) = sym (ap (freeWord (64 - k)) (drop-of-length-le (arrangementOf s vs) {i = k} (omega (arith, arrangement-length s vs))) ∙ free-none (64 - k))
-
-  -- at the start no place has been looked at
-  pub free-start : (k : ℕ) → k ≡ min (length vs) 64 → 0 ≡ freeWord (64 - k) (drop k (arrangementOf s vs))
-  free-start k e = pick (decLt (length vs) 64)
-    where
-      pick : Dec (length vs < 64) → 0 ≡ freeWord (64 - k) (drop k (arrangementOf s vs))
-      pick (yes h) = free-end k (inr (omega arith))
-      pick (no h) = free-end k (inl (omega arith))

@@ -1,6 +1,7 @@
 // The robot on a place of a zone, the place of a robot, and the earliest empty place.
 ghost use mathlib.Core.Path.{_≡_};
 ghost use Prim.Native.Nat.{suc};
+ghost use lib.Count.{trailingZeros};
 ghost use lib.Dec.{eqb};
 ghost use Rattle.spec.specs.Arrangement.{seek, cell};
 ghost use Rattle.spec.specs.State.{arrangementOf, cellOf};
@@ -9,6 +10,7 @@ ghost use Rattle.clique.specs.Places.{freeWord};
 use crate::counting::least;
 use motion::State;
 use motion::robot_on;
+use motion::seek_cell;
 use numbering::Robot;
 use numbering::Vertex;
 
@@ -75,6 +77,13 @@ fn free_word(s: State, zone: &[u8]) -> u64
     w
 }
 
+// The earliest place in a free word.
+fn earliest(w: u64) -> usize
+    ensures { λ f. ⌜ f ≡ trailingZeros 64 w ⌝ }
+{
+    u64::trailing_zeros(w) as usize
+}
+
 // "the earliest listed empty point": the trailing zeros of the free word; the size where no place is empty.
 // A clique has at most 64 places; a longer zone whose first 64 are taken is searched.
 pub fn first_free(s: State, zone: &[u8]) -> usize
@@ -82,7 +91,35 @@ pub fn first_free(s: State, zone: &[u8]) -> usize
 {
     let w = free_word(s, zone);
     if 0 < w {
-        return u64::trailing_zeros(w) as usize;
+        return earliest(w);
     }
     seek_robot(s, zone, Robot(255))
+}
+
+// The free word of an arrangement in cells.
+fn free_cells(cells: &[u8]) -> u64
+    ensures { λ w. ⌜ w ≡ freeWord 64 (now (cells .entry)) ⌝ }
+{
+    let mut w: u64 = 0;
+    let mut k = least(cells.len(), 64);
+    while 0 < k {
+        k -= 1;
+        let x = cells[k];
+        w = w * 2;
+        if x == 0 {
+            w += 1;
+        }
+    }
+    w
+}
+
+// The earliest empty place of an arrangement in cells; the size where no place is empty.
+pub fn first_empty(cells: &[u8]) -> usize
+    ensures { λ f. ⌜ f ≡ seek 0 (now (cells .entry)) ⌝ }
+{
+    let w = free_cells(cells);
+    if 0 < w {
+        return earliest(w);
+    }
+    seek_cell(cells, 0)
 }
