@@ -14,7 +14,7 @@ use Rattle.spec.specs.Outcome.{_&&_, all, member, sameList}
 use Rattle.spec.specs.Arrangement.{Arrangement, seek, order, full}
 use Rattle.spec.specs.Clique.{sameRobots, cliqueCanEnd, cliqueEnd, cliqueTo}
 use Rattle.theory.specs.Basics.Tests.{false-of, same→eq}
-use Rattle.clique.specs.Places.{member-seek}
+use Rattle.motion.specs.Reading.{member-seek}
 
 -- an arrangement from place k on begins with what stands there
 next : (a : Arrangement) (k : ℕ) → k < length a → drop k a ≡ getD a k 0 ∷ drop (k + 1) a

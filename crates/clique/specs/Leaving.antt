@@ -13,7 +13,7 @@ use Rattle.spec.specs.Clique.{makeRoom, cliqueCanLeave, cliqueLeave}
 use Rattle.spec.specs.State.{cellOf, across, acrossMove}
 use Rattle.theory.specs.Maps.Cells.{cell-of, cell-none}
 use Rattle.motion.specs.World.{World, made, madeAll}
-use Rattle.clique.specs.Places.{member-seek}
+use Rattle.motion.specs.Reading.{member-seek}
 
 -- no move, and one move
 pub made-nothing : (w : World) (vs : List ℕ) (ms : List Move) → ms ≡ [] → w ≡ madeAll w (across vs ms)

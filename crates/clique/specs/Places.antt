@@ -1,74 +1,16 @@
--- The robot on a place, the place of a robot, and the word of the empty places.
+-- The word of the empty places.
 use mathlib.Core.Path.{_≡_, refl, ap, ap₂, sym, _∙_}
-use mathlib.Core.Logic.{_≢_, _⊎_, inl, inr}
-use mathlib.Core.Bool.{Bool, true, false}
+use mathlib.Core.Logic.{_≢_}
 use Prim.Native.Nat.{ℕ, zero, suc, _+_, _-_, _*_, _/_, _%_, _^_, _<_, _≤_, min}
-use mathlib.Core.List.{List, [], _∷_, map}
-use native.Mathlib.Numerals.{add-one}
+use mathlib.Core.List.{[], _∷_}
 use native.Mathlib.Omega.{arith}
 use native.Mathlib.Nat.{not-suc-le-zero, pow-suc, lt-of-lt-of-le, pow-le-pow-right}
-use native.Mathlib.Decide.{ℕ-discrete, decLt}
-use lib.Count.{trailingZeros, under}
-use lib.ListN.{length, getD, drop, drop-of-length-le, List·getD-eq-default}
+use native.Mathlib.Decide.{decLt}
+use lib.Count.{trailingZeros}
+use lib.ListN.{length, drop, drop-of-length-le}
 use lib.Seq.{drop-cons}
-use lib.Dec.{eqb, ltb}
-use borrow.Author.Tests.{eq-eqb, ne-eqb, lt-ltb, le-ltb}
-use Rattle.spec.specs.Outcome.{member}
-use Rattle.spec.specs.Arrangement.{Arrangement, seek, cell, order}
-use Rattle.spec.specs.State.{State, robotOn, cellOf, arrangementOf}
-use Rattle.theory.specs.Basics.Tests.{Eqb, same, other, eqb?, Ltb, less, more, ltb?}
-use Rattle.theory.specs.Maps.Cells.{cell-of, cell-none, cell-robot, cell-empty}
-use Rattle.motion.specs.Cells.{seek-same, seek-other}
-use Rattle.motion.specs.Across.{arrangement-length, arrangement-at, arrangement-next}
-use Rattle.clique.specs.Counts.{eqb-suc}
-
--- ---- cells
-
--- two robots with the same cell are the same
-pub cell-injective : (r x : ℕ) → cellOf r ≡ cellOf x → r ≡ x
-cell-injective r x e = pick (ℕ-discrete r 255)
-  where
-    pick : Dec (r ≡ 255) → r ≡ x
-    pick (yes h) = h ∙ sym (cell-empty x (sym e ∙ cell-none h))
-    pick (no h) = sym (cell-robot x r (sym e ∙ cell-of h) .0)
-
--- nobody is robot 255
-pub cell-under : (x : ℕ) → suc 255 ≢ cellOf x
-cell-under x e = let p = cell-robot x 255 (sym e) in p .1 (p .0)
-
--- does the robot on a place equal r
-pub stands-not : (x r c : ℕ) → cellOf x ≡ c → x ≡ 255 → false ≡ eqb c (suc r)
-stands-not x r c e n =
-    let z : 0 ≡ c = sym (cell-none n) ∙ e in
-    let d : (c ≡ suc r → ⊥) = λ q. omega arith in
-    sym (ne-eqb _ _ d)
-
-pub stands-is : (x r c : ℕ) → cellOf x ≡ c → x ≢ 255 → eqb x r ≡ eqb c (suc r)
-stands-is x r c e n = eqb-suc x r ∙ ap (λ (y : ℕ). eqb y (suc r)) (sym (cell-of n) ∙ e)
-
--- ---- membership
-
--- the test one higher
-ltb-suc : (x y : ℕ) → ltb (suc x) (suc y) ≡ ltb x y
-ltb-suc x y = pick (ltb x y) (ltb? x y)
-  where
-    pick : (b : Bool) → Ltb x y b → ltb (suc x) (suc y) ≡ b
-    pick true (less h) = lt-ltb (suc x) (suc y) (omega arith)
-    pick false (more h) = le-ltb (suc x) (suc y) (omega arith)
-
--- a robot is in a zone exactly where a search finds it
-pub member-seek : (r : ℕ) (a : Arrangement) → ltb (seek (suc r) a) (length a) ≡ member r (order a)
-unfolding seek order member
-member-seek r [] = le-ltb 0 0 (omega arith)
-member-seek r (zero ∷ a) = ap (λ (n : ℕ). ltb n (suc (length a))) (seek-other (suc r) 0 a (λ q. omega arith)) ∙ ltb-suc (seek (suc r) a) (length a) ∙ member-seek r a
-member-seek r (suc x ∷ a) = pick (eqb r x) (eqb? r x) refl (member-seek r a)
-  where
-    pick : (b : Bool) → Eqb r x b → eqb r x ≡ b → ltb (seek (suc r) a) (length a) ≡ member r (order a)
-        → ltb (seek (suc r) (suc x ∷ a)) (suc (length a)) ≡ member r (x ∷ order a)
-    pick true (same e) q ih = rw (q, member) (lt-ltb (seek (suc r) (suc x ∷ a)) (suc (length a)) (omega (arith, seek-same (suc r) (suc x) a (ap suc e))))
-    pick false (other n) q ih =
-        let d : (suc r ≡ suc x → ⊥) = λ z. n (omega arith) in
-        rw (q, member) (ap (λ (n : ℕ). ltb n (suc (length a))) (seek-other (suc r) (suc x) a d) ∙ ltb-suc (seek (suc r) a) (length a) ∙ ih)
+use Rattle.spec.specs.Arrangement.{Arrangement, seek, cell}
+use Rattle.motion.specs.Cells.{seek-other}
 
 -- ---- the free word
 
@@ -149,48 +91,3 @@ module _ (a : Arrangement) where
   free-taken k w p h l e n =
       let d : cell a (k - 1) ≡ suc (cell a (k - 1) - 1) = not-zero (cell a (k - 1)) n in
       sym (free-before k p h l ∙ ap (λ (x : ℕ). freeWord (suc (64 - k)) (x ∷ drop k a)) d ∙ ap (λ (v : ℕ). v * 2) (sym e))
-
--- robot 255 is nowhere
-pub seek-nobody : (s : State) (vs : List ℕ) (r : ℕ) → r ≡ 255 → length vs ≡ seek (suc r) (arrangementOf s vs)
-unfolding arrangementOf seek
-seek-nobody s [] r e = refl
-seek-nobody s (v ∷ vs) r e =
-    let n : (suc r ≡ cellOf (robotOn s v) → ⊥) = λ q. cell-under (robotOn s v) (ap suc (sym e) ∙ q) in
-    ap suc (seek-nobody s vs r e) ∙ sym (seek-other (suc r) (cellOf (robotOn s v)) (arrangementOf s vs) n)
-
-module _ (s : State) (vs : List ℕ) where
-  -- the robot on a place, and past the last
-  pub robot-here : (j r : ℕ) → j < length vs → r ≡ robotOn s (getD vs j 0) → cellOf r ≡ cell (arrangementOf s vs) j
-  robot-here j r h e = ap cellOf e ∙ sym (arrangement-at s vs j h)
-
-  pub robot-past : (j : ℕ) → length vs ≤ j → cellOf 255 ≡ cell (arrangementOf s vs) j
-  robot-past j h = cell-none refl ∙ sym (List·getD-eq-default (arrangementOf s vs) 0 (omega (arith, arrangement-length s vs)))
-
-  -- a place on which nobody stands is empty, any other is not
-  pub empty-here : (j r : ℕ) → j < length vs → r ≡ robotOn s (getD vs j 0) → r ≡ 255 → cell (arrangementOf s vs) j ≡ 0
-  empty-here j r h e n = sym (robot-here j r h e) ∙ cell-none n
-
-  pub taken-here : (j r : ℕ) → j < length vs → r ≡ robotOn s (getD vs j 0) → r ≢ 255 → cell (arrangementOf s vs) j ≢ 0
-  taken-here j r h e n z = let d : suc r ≡ 0 = sym (cell-of n) ∙ robot-here j r h e ∙ z in omega arith
-
-  -- a search from place i on: found, one place further, at the end
-  pub seek-here : (i r x : ℕ) → i < length vs → x ≡ robotOn s (getD vs i 0) → r ≡ x → i ≡ i + seek (cellOf r) (drop i (arrangementOf s vs))
-  seek-here i r x h e d =
-      omega (
-        arith,
-        ap (seek (cellOf r)) (arrangement-next s vs i x h e),
-        seek-same (cellOf r) (cellOf x) (drop (i + 1) (arrangementOf s vs)) (ap cellOf d),
-      )
-
-  pub seek-further : (i r x : ℕ) → i < length vs → x ≡ robotOn s (getD vs i 0) → r ≢ x
-      → i + 1 + seek (cellOf r) (drop (i + 1) (arrangementOf s vs)) ≡ i + seek (cellOf r) (drop i (arrangementOf s vs))
-  seek-further i r x h e n =
-      omega (
-        arith,
-        ap (seek (cellOf r)) (arrangement-next s vs i x h e),
-        seek-other (cellOf r) (cellOf x) (drop (i + 1) (arrangementOf s vs)) (λ q. n (cell-injective r x q)),
-      )
-
-  pub seek-none : (i r : ℕ) → length vs ≤ i → i ≡ i + seek (cellOf r) (drop i (arrangementOf s vs))
-  unfolding seek
-  seek-none i r h = omega (arith, ap (seek (cellOf r)) (drop-of-length-le (arrangementOf s vs) {i = i} (omega (arith, arrangement-length s vs))))

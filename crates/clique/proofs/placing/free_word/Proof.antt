@@ -6,7 +6,8 @@ use lib.ListN.{length, drop}
 use Rattle.spec.specs.State.{arrangementOf}
 use Rattle.motion.specs.States.{stateOf}
 use Rattle.motion.specs.Across.{arrangement-length}
-use Rattle.clique.specs.Places.{freeWord, free-half, free-start, free-empty, free-taken, empty-here, taken-here}
+use Rattle.clique.specs.Places.{freeWord, free-half, free-start, free-empty, free-taken}
+use Rattle.motion.specs.Reading.{empty-here, taken-here}
 use Rattle.clique.proofs.placing.free_word.Statement.{statement}
 use Rattle.clique.proofs.placing.free_word.Tie as tie
 
