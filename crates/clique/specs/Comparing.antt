@@ -6,7 +6,8 @@ use Prim.Native.Nat.{ℕ, zero, suc, _+_, _-_, _*_, _<_, _≤_, min}
 use mathlib.Core.List.{List, [], _∷_}
 use native.Mathlib.Numerals.{add-one}
 use native.Mathlib.Omega.{arith}
-use lib.ListN.{length, getD, take, drop, replicate, drop-of-length-le}
+use native.Mathlib.Decide.{decLt}
+use lib.ListN.{length, getD, take, drop, replicate, length-replicate, getD-replicate, drop-of-length-le}
 use lib.Seq.{drop-cons, length-take-le}
 use lib.Dec.{eqb, ltb}
 use borrow.Author.Tests.{eq-eqb, ne-eqb, lt-ltb, le-ltb}
@@ -14,7 +15,8 @@ use Rattle.spec.specs.Outcome.{_&&_, all, member, sameList}
 use Rattle.spec.specs.Arrangement.{Arrangement, seek, order, full}
 use Rattle.spec.specs.Clique.{sameRobots, cliqueCanEnd, cliqueEnd, cliqueTo}
 use Rattle.theory.specs.Basics.Tests.{false-of, same→eq}
-use Rattle.clique.specs.Places.{member-seek}
+use Rattle.motion.specs.Reading.{member-seek}
+use Rattle.clique.specs.Marks.{marked, mark-there, mark-not}
 
 -- an arrangement from place k on begins with what stands there
 next : (a : Arrangement) (k : ℕ) → k < length a → drop k a ≡ getD a k 0 ∷ drop (k + 1) a
@@ -26,6 +28,10 @@ noCells = replicate 128 0
 
 pub cells-length : (n : ℕ) → n ≤ 128 → length (take n noCells) ≡ n
 cells-length n h = length-take-le n noCells h
+
+-- a table in which nothing is marked
+abbrev pub noMarks : List ℕ
+noMarks = replicate 256 0
 
 -- ---- counting
 
@@ -87,6 +93,26 @@ module _ (a g : Arrangement) where
   pub among-not : (k i : ℕ) → k < length a → getD a k 0 ≢ 0 → i ≡ seek (getD a k 0) g → length g ≤ i → false ≡ among (drop k a) g
   among-not k i h n e l =
       sym (ap (λ (b : Arrangement). among b g) (next a k h) ∙ among-missing (getD a k 0) (drop (k + 1) a) g n (omega arith))
+
+  -- the same, read from a table in which the cells of g are marked
+  pub among-marked : (k m : ℕ) → k < length a → getD a k 0 ≢ 0 → getD a k 0 < 256 → m ≡ getD (marked g noMarks) (getD a k 0) 0 → m ≢ 0
+      → among (drop (k + 1) a) g ≡ among (drop k a) g
+  among-marked k m h n b e z = among-there k (seek (getD a k 0) g) h n refl (pick (decLt (seek (getD a k 0) g) (length g)))
+    where
+      pick : Dec (seek (getD a k 0) g < length g) → seek (getD a k 0) g < length g
+      pick (yes l) = l
+      pick (no l) = absurd (z (e ∙ mark-not g noMarks (getD a k 0) (omega arith) ∙ getD-replicate 256 (getD a k 0) 0 0 b))
+
+  pub among-unmarked : (k m : ℕ) → k < length a → getD a k 0 ≢ 0 → getD a k 0 < 256 → m ≡ getD (marked g noMarks) (getD a k 0) 0 → m ≡ 0
+      → false ≡ among (drop k a) g
+  among-unmarked k m h n b e z = among-not k (seek (getD a k 0) g) h n refl (pick (decLt (seek (getD a k 0) g) (length g)))
+    where
+      pick : Dec (seek (getD a k 0) g < length g) → length g ≤ seek (getD a k 0) g
+      pick (yes l) =
+          let x : ℕ = getD a k 0 in
+          let d : getD (marked g noMarks) x 0 ≡ 1 = mark-there g noMarks x (rw (length-replicate {A = ℕ} 256 0) b) l in
+          absurd (omega arith)
+      pick (no l) = omega arith
 
   pub among-all : (k : ℕ) → length a ≤ k → true ≡ among (drop k a) g
   unfolding among order all

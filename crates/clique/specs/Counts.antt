@@ -1,18 +1,17 @@
 -- How many robots a zone holds.
-use mathlib.Core.Path.{_≡_, refl, ap, sym, _∙_}
-use mathlib.Core.Bool.{Bool, true, false}
-use Prim.Native.Nat.{ℕ, zero, suc, _+_, _-_, _<_, _≤_}
-use mathlib.Core.List.{List, [], _∷_}
+use mathlib.Core.Path.{_≡_, ap, sym, _∙_}
+use mathlib.Core.Bool.{false}
+use Prim.Native.Nat.{ℕ, suc, _+_, _-_, _<_, _≤_}
+use mathlib.Core.List.{List, _∷_}
 use native.Mathlib.Omega.{arith}
-use native.Mathlib.Nat.{not-suc-le-zero}
 use lib.ListN.{length, getD, drop, drop-of-length-le}
 use lib.Dec.{eqb}
-use borrow.Author.Tests.{eq-eqb, ne-eqb}
-use Rattle.spec.specs.Arrangement.{Arrangement, order, full, lastFree}
+use borrow.Author.Tests.{ne-eqb}
+use Rattle.spec.specs.Arrangement.{Arrangement, order, lastFree}
 use Rattle.spec.specs.State.{State, robotOn, cellOf, arrangementOf}
-use Rattle.theory.specs.Basics.Tests.{Eqb, same, other, eqb?}
 use Rattle.theory.specs.Maps.Cells.{cell-of, cell-none}
 use Rattle.motion.specs.Across.{arrangement-length, arrangement-next}
+use Rattle.motion.specs.Reading.{eqb-suc}
 
 -- a robot counts, an empty place does not
 pub order-robot : (r : ℕ) (a : Arrangement) → (r ≡ 255 → ⊥) → order (cellOf r ∷ a) ≡ r ∷ order a
@@ -22,14 +21,6 @@ order-robot r a n = ap (λ (x : ℕ). order (x ∷ a)) (cell-of n)
 pub order-none : (r : ℕ) (a : Arrangement) → r ≡ 255 → order (cellOf r ∷ a) ≡ order a
 unfolding order
 order-none r a e = ap (λ (x : ℕ). order (x ∷ a)) (cell-none e)
-
--- the numbers that pass a test together pass it one higher
-pub eqb-suc : (x y : ℕ) → eqb x y ≡ eqb (suc x) (suc y)
-eqb-suc x y = pick (eqb x y) (eqb? x y)
-  where
-    pick : (b : Bool) → Eqb x y b → b ≡ eqb (suc x) (suc y)
-    pick true (same e) = sym (eq-eqb _ _ (ap suc e))
-    pick false (other n) = sym (ne-eqb (suc x) (suc y) (λ (q : suc x ≡ suc y). n (omega arith)))
 
 module _ (s : State) (vs : List ℕ) where
   -- one robot more is counted
@@ -50,11 +41,6 @@ module _ (s : State) (vs : List ℕ) where
   pub count-end : (k : ℕ) → length vs ≤ k → length (order (drop k (arrangementOf s vs))) ≡ 0
   unfolding order
   count-end k h = ap (λ (a : Arrangement). length (order a)) (drop-of-length-le (arrangementOf s vs) {i = k} (omega (arith, arrangement-length s vs)))
-
-  -- full: as many robots as places
-  pub full-is : (n : ℕ) → n ≡ length (order (arrangementOf s vs)) → eqb n (length vs) ≡ full (arrangementOf s vs)
-  unfolding full
-  full-is n e = rw (e, arrangement-length s vs)
 
   -- the last free place: one robot fewer
   pub last-free-none : length vs ≡ 0 → false ≡ lastFree (arrangementOf s vs)

@@ -13,7 +13,7 @@ use Rattle.spec.specs.Clique.{makeRoom, cliqueCanLeave, cliqueLeave}
 use Rattle.spec.specs.State.{cellOf, across, acrossMove}
 use Rattle.theory.specs.Maps.Cells.{cell-of, cell-none}
 use Rattle.motion.specs.World.{World, made, madeAll}
-use Rattle.clique.specs.Places.{member-seek}
+use Rattle.motion.specs.Reading.{member-seek}
 
 -- no move, and one move
 pub made-nothing : (w : World) (vs : List ℕ) (ms : List Move) → ms ≡ [] → w ≡ madeAll w (across vs ms)
@@ -23,6 +23,12 @@ made-nothing w vs ms e = rw e
 pub made-single : (w u : World) (vs : List ℕ) (m : Move) (ms : List Move) → u ≡ made w (acrossMove vs m) → ms ≡ m ∷ [] → u ≡ madeAll w (across vs ms)
 unfolding madeAll across
 made-single w u vs m ms e d = rw (d, e)
+
+-- two moves, one after the other
+pub made-pair : (w u : World) (vs : List ℕ) (m n : Move) (ms : List Move) → u ≡ made (made w (acrossMove vs m)) (acrossMove vs n) → ms ≡ m ∷ n ∷ []
+    → u ≡ madeAll w (across vs ms)
+unfolding madeAll across
+made-pair w u vs m n ms e d = rw (d, e)
 
 -- nobody stands there
 pub room-none : (a : Arrangement) (j x : ℕ) → cellOf x ≡ cell a j → x ≡ 255 → makeRoom a j ≡ []
@@ -44,9 +50,19 @@ unfolding cliqueLeave
 leave-stays a r j e = rw (← e, cliqueLeave)
 
 -- room is made, then the leaver goes there
-pub leave-goes : (a : Arrangement) (r j : ℕ) → false ≡ eqb (cell a j) (suc r) → cliqueLeave a r j ≡ makeRoom a j ++ (mv r (seek (suc r) a) j ∷ [])
+leave-goes : (a : Arrangement) (r j : ℕ) → false ≡ eqb (cell a j) (suc r) → cliqueLeave a r j ≡ makeRoom a j ++ (mv r (seek (suc r) a) j ∷ [])
 unfolding cliqueLeave
 leave-goes a r j e = rw (← e, cliqueLeave)
+
+-- nobody stands there: the leaver goes
+pub leave-alone : (a : Arrangement) (r j x : ℕ) → false ≡ eqb (cell a j) (suc r) → cellOf x ≡ cell a j → x ≡ 255
+    → cliqueLeave a r j ≡ mv r (seek (suc r) a) j ∷ []
+leave-alone a r j x e d n = leave-goes a r j e ∙ ap (λ (ms : List Move). ms ++ (mv r (seek (suc r) a) j ∷ [])) (room-none a j x d n)
+
+-- the sitter goes to the earliest empty place, then the leaver goes
+pub leave-both : (a : Arrangement) (r j x : ℕ) → false ≡ eqb (cell a j) (suc r) → cellOf x ≡ cell a j → x ≢ 255
+    → cliqueLeave a r j ≡ mv x j (seek 0 a) ∷ mv r (seek (suc r) a) j ∷ []
+leave-both a r j x e d n = leave-goes a r j e ∙ ap (λ (ms : List Move). ms ++ (mv r (seek (suc r) a) j ∷ [])) (room-made a j x d n)
 
 -- in a full clique the leaver has to stand there
 pub can-leave-full : (a : Arrangement) (r j : ℕ) → true ≡ full a → eqb (cell a j) (suc r) ≡ cliqueCanLeave a r j

@@ -3,5 +3,6 @@ pub mod Counts
 pub mod Places
 pub mod Leaving
 pub mod Toward
+pub mod Marks
 pub mod Comparing
 pub mod Entering

@@ -1,74 +1,16 @@
--- The robot on a place, the place of a robot, and the word of the empty places.
+-- The word of the empty places.
 use mathlib.Core.Path.{_≡_, refl, ap, ap₂, sym, _∙_}
-use mathlib.Core.Logic.{_≢_, _⊎_, inl, inr}
-use mathlib.Core.Bool.{Bool, true, false}
+use mathlib.Core.Logic.{_≢_}
 use Prim.Native.Nat.{ℕ, zero, suc, _+_, _-_, _*_, _/_, _%_, _^_, _<_, _≤_, min}
-use mathlib.Core.List.{List, [], _∷_, map}
-use native.Mathlib.Numerals.{add-one}
+use mathlib.Core.List.{[], _∷_}
 use native.Mathlib.Omega.{arith}
 use native.Mathlib.Nat.{not-suc-le-zero, pow-suc, lt-of-lt-of-le, pow-le-pow-right}
-use native.Mathlib.Decide.{ℕ-discrete, decLt}
-use lib.Count.{trailingZeros, under}
-use lib.ListN.{length, getD, drop, drop-of-length-le, List·getD-eq-default}
+use native.Mathlib.Decide.{decLt}
+use lib.Count.{trailingZeros}
+use lib.ListN.{length, drop, drop-of-length-le}
 use lib.Seq.{drop-cons}
-use lib.Dec.{eqb, ltb}
-use borrow.Author.Tests.{eq-eqb, ne-eqb, lt-ltb, le-ltb}
-use Rattle.spec.specs.Outcome.{member}
-use Rattle.spec.specs.Arrangement.{Arrangement, seek, cell, order}
-use Rattle.spec.specs.State.{State, robotOn, cellOf, arrangementOf}
-use Rattle.theory.specs.Basics.Tests.{Eqb, same, other, eqb?, Ltb, less, more, ltb?}
-use Rattle.theory.specs.Maps.Cells.{cell-of, cell-none, cell-robot, cell-empty}
-use Rattle.motion.specs.Cells.{seek-same, seek-other}
-use Rattle.motion.specs.Across.{arrangement-length, arrangement-at, arrangement-next}
-use Rattle.clique.specs.Counts.{eqb-suc}
-
--- ---- cells
-
--- two robots with the same cell are the same
-pub cell-injective : (r x : ℕ) → cellOf r ≡ cellOf x → r ≡ x
-cell-injective r x e = pick (ℕ-discrete r 255)
-  where
-    pick : Dec (r ≡ 255) → r ≡ x
-    pick (yes h) = h ∙ sym (cell-empty x (sym e ∙ cell-none h))
-    pick (no h) = sym (cell-robot x r (sym e ∙ cell-of h) .0)
-
--- nobody is robot 255
-pub cell-under : (x : ℕ) → suc 255 ≢ cellOf x
-cell-under x e = let p = cell-robot x 255 (sym e) in p .1 (p .0)
-
--- does the robot on a place equal r
-pub stands-not : (x r c : ℕ) → cellOf x ≡ c → x ≡ 255 → false ≡ eqb c (suc r)
-stands-not x r c e n =
-    let z : 0 ≡ c = sym (cell-none n) ∙ e in
-    let d : (c ≡ suc r → ⊥) = λ q. omega arith in
-    sym (ne-eqb _ _ d)
-
-pub stands-is : (x r c : ℕ) → cellOf x ≡ c → x ≢ 255 → eqb x r ≡ eqb c (suc r)
-stands-is x r c e n = eqb-suc x r ∙ ap (λ (y : ℕ). eqb y (suc r)) (sym (cell-of n) ∙ e)
-
--- ---- membership
-
--- the test one higher
-ltb-suc : (x y : ℕ) → ltb (suc x) (suc y) ≡ ltb x y
-ltb-suc x y = pick (ltb x y) (ltb? x y)
-  where
-    pick : (b : Bool) → Ltb x y b → ltb (suc x) (suc y) ≡ b
-    pick true (less h) = lt-ltb (suc x) (suc y) (omega arith)
-    pick false (more h) = le-ltb (suc x) (suc y) (omega arith)
-
--- a robot is in a zone exactly where a search finds it
-pub member-seek : (r : ℕ) (a : Arrangement) → ltb (seek (suc r) a) (length a) ≡ member r (order a)
-unfolding seek order member
-member-seek r [] = le-ltb 0 0 (omega arith)
-member-seek r (zero ∷ a) = ap (λ (n : ℕ). ltb n (suc (length a))) (seek-other (suc r) 0 a (λ q. omega arith)) ∙ ltb-suc (seek (suc r) a) (length a) ∙ member-seek r a
-member-seek r (suc x ∷ a) = pick (eqb r x) (eqb? r x) refl (member-seek r a)
-  where
-    pick : (b : Bool) → Eqb r x b → eqb r x ≡ b → ltb (seek (suc r) a) (length a) ≡ member r (order a)
-        → ltb (seek (suc r) (suc x ∷ a)) (suc (length a)) ≡ member r (x ∷ order a)
-    pick true (same e) q ih = rw (q, member) (lt-ltb (seek (suc r) (suc x ∷ a)) (suc (length a)) (omega (arith, seek-same (suc r) (suc x) a (ap suc e))))
-    pick false (other n) q ih =
-        let d : (suc r ≡ suc x → ⊥) = λ z. n (omega arith) in
-        rw (q, member) (ap (λ (n : ℕ). ltb n (suc (length a))) (seek-other (suc r) (suc x) a d) ∙ ltb-suc (seek (suc r) a) (length a) ∙ ih)
+use Rattle.spec.specs.Arrangement.{Arrangement, seek, cell}
+use Rattle.motion.specs.Cells.{seek-other}
 
 -- ---- the free word
 
@@ -94,6 +36,11 @@ free-half k a h = pick (64 - k) (drop k a) (omega arith)
     pick : (n : ℕ) (b : Arrangement) → n ≤ 63 → freeWord n b < 2 ^ 63
     pick n b l = lt-of-lt-of-le (free-fits n b) (pow-le-pow-right (omega arith) l)
 
+-- a number that is not zero
+not-zero : (x : ℕ) → x ≢ 0 → x ≡ suc (x - 1)
+not-zero zero n = absurd (n refl)
+not-zero (suc x) n = omega arith
+
 -- no place, no bit
 pub free-none : (n : ℕ) → freeWord n [] ≡ 0
 unfolding freeWord
@@ -111,69 +58,36 @@ free-seek (suc n) (suc r ∷ a) p =
     let d : (freeWord n a * 2) / 2 ≡ freeWord n a = omega arith in
     rw (e, d) (ap suc (free-seek n a (omega arith)) ∙ sym (seek-other 0 (suc r) a (λ q. omega arith)))
 
--- robot 255 is nowhere
-pub seek-nobody : (s : State) (vs : List ℕ) (r : ℕ) → r ≡ 255 → length vs ≡ seek (suc r) (arrangementOf s vs)
-unfolding arrangementOf seek
-seek-nobody s [] r e = refl
-seek-nobody s (v ∷ vs) r e =
-    let n : (suc r ≡ cellOf (robotOn s v) → ⊥) = λ q. cell-under (robotOn s v) (ap suc (sym e) ∙ q) in
-    ap suc (seek-nobody s vs r e) ∙ sym (seek-other (suc r) (cellOf (robotOn s v)) (arrangementOf s vs) n)
+-- ---- the free word, built from the last place down
 
-module _ (s : State) (vs : List ℕ) where
-  -- the robot on a place, and past the last
-  pub robot-here : (j r : ℕ) → j < length vs → r ≡ robotOn s (getD vs j 0) → cellOf r ≡ cell (arrangementOf s vs) j
-  robot-here j r h e = ap cellOf e ∙ sym (arrangement-at s vs j h)
-
-  pub robot-past : (j : ℕ) → length vs ≤ j → cellOf 255 ≡ cell (arrangementOf s vs) j
-  robot-past j h = cell-none refl ∙ sym (List·getD-eq-default (arrangementOf s vs) 0 (omega (arith, arrangement-length s vs)))
-
-  -- a search from place i on: found, one place further, at the end
-  pub seek-here : (i r x : ℕ) → i < length vs → x ≡ robotOn s (getD vs i 0) → r ≡ x → i ≡ i + seek (cellOf r) (drop i (arrangementOf s vs))
-  seek-here i r x h e d =
-      omega (
-        arith,
-        ap (seek (cellOf r)) (arrangement-next s vs i x h e),
-        seek-same (cellOf r) (cellOf x) (drop (i + 1) (arrangementOf s vs)) (ap cellOf d),
-      )
-
-  pub seek-further : (i r x : ℕ) → i < length vs → x ≡ robotOn s (getD vs i 0) → r ≢ x
-      → i + 1 + seek (cellOf r) (drop (i + 1) (arrangementOf s vs)) ≡ i + seek (cellOf r) (drop i (arrangementOf s vs))
-  seek-further i r x h e n =
-      omega (
-        arith,
-        ap (seek (cellOf r)) (arrangement-next s vs i x h e),
-        seek-other (cellOf r) (cellOf x) (drop (i + 1) (arrangementOf s vs)) (λ q. n (cell-injective r x q)),
-      )
-
-  pub seek-none : (i r : ℕ) → length vs ≤ i → i ≡ i + seek (cellOf r) (drop i (arrangementOf s vs))
-  unfolding seek
-  seek-none i r h = omega (arith, ap (seek (cellOf r)) (drop-of-length-le (arrangementOf s vs) {i = i} (omega (arith, arrangement-length s vs))))
-
-  -- one place more in the word, empty or taken
-  pub free-empty : (k r : ℕ) → k < length vs → k < 64 → r ≡ robotOn s (getD vs k 0) → r ≡ 255
-      → freeWord (64 - k) (drop k (arrangementOf s vs)) ≡ freeWord (64 - (k + 1)) (drop (k + 1) (arrangementOf s vs)) * 2 + 1
-  unfolding freeWord
-  free-empty k r h l e n =
-      let d : 64 - k ≡ suc (64 - (k + 1)) = omega arith in
-      ap₂ freeWord d (arrangement-next s vs k r h e ∙ ap (λ (x : ℕ). x ∷ drop (k + 1) (arrangementOf s vs)) (cell-none n))
-
-  pub free-taken : (k r : ℕ) → k < length vs → k < 64 → r ≡ robotOn s (getD vs k 0) → r ≢ 255
-      → freeWord (64 - k) (drop k (arrangementOf s vs)) ≡ freeWord (64 - (k + 1)) (drop (k + 1) (arrangementOf s vs)) * 2
-  unfolding freeWord
-  free-taken k r h l e n =
-      let d : 64 - k ≡ suc (64 - (k + 1)) = omega arith in
-      ap₂ freeWord d (arrangement-next s vs k r h e ∙ ap (λ (x : ℕ). x ∷ drop (k + 1) (arrangementOf s vs)) (cell-of n))
-
-  -- before the last of the first 64 places the word is empty
-  pub free-end : (k : ℕ) → (k ≡ 64) ⊎ (length vs ≤ k) → 0 ≡ freeWord (64 - k) (drop k (arrangementOf s vs))
-  unfolding freeWord
-  free-end k (inl e) = let d : 64 - k ≡ 0 = omega arith in sym (ap (λ (n : ℕ). freeWord n (drop k (arrangementOf s vs))) d)
-  free-end k (inr h) = sym (ap (freeWord (64 - k)) (drop-of-length-le (arrangementOf s vs) {i = k} (omega (arith, arrangement-length s vs))) ∙ free-none (64 - k))
-
+module _ (a : Arrangement) where
   -- at the start no place has been looked at
-  pub free-start : (k : ℕ) → k ≡ min (length vs) 64 → 0 ≡ freeWord (64 - k) (drop k (arrangementOf s vs))
-  free-start k e = pick (decLt (length vs) 64)
+  pub free-start : (k : ℕ) → k ≡ min (length a) 64 → 0 ≡ freeWord (64 - k) (drop k a)
+  unfolding freeWord
+  free-start k e = pick (decLt (length a) 64)
     where
-      pick : Dec (length vs < 64) → 0 ≡ freeWord (64 - k) (drop k (arrangementOf s vs))
-      pick (yes h) = free-end k (inr (omega arith))
-      pick (no h) = free-end k (inl (omega arith))
+      pick : Dec (length a < 64) → 0 ≡ freeWord (64 - k) (drop k a)
+      pick (yes h) = sym (ap (freeWord (64 - k)) (drop-of-length-le a {i = k} (omega arith)) ∙ free-none (64 - k))
+      pick (no h) = let d : 64 - k ≡ 0 = omega arith in sym (ap (λ (n : ℕ). freeWord n (drop k a)) d)
+
+  -- the place before place k
+  free-before : (k : ℕ) → 0 < k → k ≤ length a → k ≤ 64
+      → freeWord (64 - (k - 1)) (drop (k - 1) a) ≡ freeWord (suc (64 - k)) (cell a (k - 1) ∷ drop k a)
+  free-before k p h l =
+      let d : 64 - (k - 1) ≡ suc (64 - k) = omega arith in
+      let e : suc (k - 1) ≡ k = omega arith in
+      ap₂ freeWord d (drop-cons a (k - 1) 0 (omega arith) ∙ ap (λ (i : ℕ). cell a (k - 1) ∷ drop i a) e)
+
+  -- it is empty: one bit more
+  pub free-empty : (k w : ℕ) → 0 < k → k ≤ length a → k ≤ 64 → w ≡ freeWord (64 - k) (drop k a) → cell a (k - 1) ≡ 0
+      → w * 2 + 1 ≡ freeWord (64 - (k - 1)) (drop (k - 1) a)
+  unfolding freeWord
+  free-empty k w p h l e d = sym (free-before k p h l ∙ ap (λ (x : ℕ). freeWord (suc (64 - k)) (x ∷ drop k a)) d ∙ ap (λ (v : ℕ). v * 2 + 1) (sym e))
+
+  -- it is taken: none
+  pub free-taken : (k w : ℕ) → 0 < k → k ≤ length a → k ≤ 64 → w ≡ freeWord (64 - k) (drop k a) → cell a (k - 1) ≢ 0
+      → w * 2 ≡ freeWord (64 - (k - 1)) (drop (k - 1) a)
+  unfolding freeWord
+  free-taken k w p h l e n =
+      let d : cell a (k - 1) ≡ suc (cell a (k - 1) - 1) = not-zero (cell a (k - 1)) n in
+      sym (free-before k p h l ∙ ap (λ (x : ℕ). freeWord (suc (64 - k)) (x ∷ drop k a)) d ∙ ap (λ (v : ℕ). v * 2) (sym e))

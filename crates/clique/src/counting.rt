@@ -1,22 +1,12 @@
 // How many robots stand in a zone, of any kind and size.
 ghost use mathlib.Core.Path.{_≡_};
-ghost use Prim.Native.Nat.{min};
 ghost use lib.ListN.{length};
-ghost use Rattle.spec.specs.Arrangement.{order, full, lastFree};
+ghost use Rattle.spec.specs.Arrangement.{order, lastFree};
 ghost use Rattle.spec.specs.State.{arrangementOf};
 ghost use Rattle.motion.specs.States.{stateOf};
 use motion::State;
 use motion::robot_on;
 use numbering::Vertex;
-
-pub fn least(a: usize, b: usize) -> usize
-    ensures { λ r. ⌜ r ≡ min a b ⌝ }
-{
-    if a < b {
-        return a;
-    }
-    b
-}
 
 // The number of robots in a zone.
 fn count_robots(s: State, zone: &[u8]) -> usize
@@ -32,14 +22,6 @@ fn count_robots(s: State, zone: &[u8]) -> usize
         }
     }
     n
-}
-
-// "'Full' means a cart on every point."
-pub fn is_full(s: State, zone: &[u8]) -> bool
-    ensures { λ b. ⌜ b ≡ full (arrangementOf (stateOf s) (now (zone .entry))) ⌝ }
-{
-    let n = count_robots(s, zone);
-    n == zone.len()
 }
 
 // Is one place free, so that whoever enters fills the zone?

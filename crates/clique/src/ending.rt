@@ -8,11 +8,11 @@ ghost use Rattle.motion.specs.States.{stateOf};
 ghost use Rattle.motion.specs.World.{worldOf, madeAll};
 use crate::comparing::same_cells;
 use crate::comparing::same_robots;
-use crate::counting::is_full;
 use crate::toward::go_toward;
 use motion::Run;
 use motion::State;
 use motion::cells_of;
+use motion::is_full;
 
 // Are the goals in the configuration of the clique? The two arrangements are worked out in lent cells.
 fn can_end_in(s: State, zone: &[u8], goals: State, cells: &mut [u8], goal: &mut [u8]) -> bool

@@ -15,26 +15,17 @@ ghost use Rattle.motion.specs.Cells.{overlaid};
 ghost use Rattle.clique.specs.Entering.{Numbered};
 use crate::comparing::same_robots;
 use crate::counting::last_free;
-use crate::counting::least;
 use crate::leaving::make_room;
 use crate::toward::go_toward;
 use motion::Run;
 use motion::State;
+use motion::cell_of;
 use motion::cells_of;
+use motion::least;
 use motion::put_cell;
 use motion::robot_on;
 use numbering::Robot;
 use numbering::Vertex;
-
-// A robot's number as what stands on a place; 255 is no robot.
-fn cell_of(r: u8) -> u8
-    ensures { λ x. ⌜ x ≡ cellOf r ⌝ }
-{
-    if r == 255 {
-        return 0;
-    }
-    r + 1
-}
 
 // Is every name of a follow list but the one at place j a robot's?
 fn names_robots(list: &[u8], j: usize) -> bool
@@ -69,7 +60,7 @@ fn list_cells(list: &[u8], cells: &mut [u8])
     let n = least(list.len(), cells.len());
     let mut k: usize = 0;
     while k < n {
-        cells[k] = cell_of(list[k]);
+        cells[k] = cell_of(Robot(list[k]));
         k += 1;
     }
 }

@@ -1,7 +1,7 @@
 // Cliques in motion (document 01, "Which moves are written"): which robots a zone holds, what a clique can do, and its moves.
 //
 //     counting   how many robots stand in a zone, of any kind
-//     placing    the robot on a place, the place of a robot, the earliest empty place
+//     placing    the earliest empty place
 //     leaving    leaving a clique, and making room in it
 //     toward     the moves towards a given arrangement
 //     comparing  two arrangements compared
@@ -15,7 +15,6 @@ pub mod leaving;
 pub mod placing;
 pub mod toward;
 
-pub use counting::is_full;
 pub use counting::last_free;
 pub use ending::bring_to_goals;
 pub use ending::can_end;
@@ -24,3 +23,4 @@ pub use entering::enter;
 pub use entering::follow_list;
 pub use leaving::can_leave;
 pub use leaving::leave;
+pub use motion::is_full;

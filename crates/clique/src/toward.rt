@@ -4,10 +4,11 @@ ghost use Rattle.spec.specs.Clique.{openTarget, lowestOff, cliqueTo};
 ghost use Rattle.spec.specs.State.{across};
 ghost use Rattle.motion.specs.World.{worldOf, madeAll};
 ghost use Rattle.clique.specs.Toward.{offNext};
-use crate::counting::least;
+use crate::placing::first_empty;
 use motion::Run;
 use motion::cell_at;
 use motion::go;
+use motion::least;
 use motion::seek_cell;
 
 // The earliest place that is empty and some robot's target; the size where there is none.
@@ -88,7 +89,7 @@ pub fn go_toward(
                 return run;
             }
             let i = seek_cell(cells, x);
-            let f = seek_cell(cells, 0);
+            let f = first_empty(cells);
             run = go(run, zone, cells, x, i, f, out);
         }
     }

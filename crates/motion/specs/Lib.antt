@@ -4,3 +4,4 @@ pub mod World
 pub mod Cells
 pub mod Across
 pub mod Coupling
+pub mod Reading

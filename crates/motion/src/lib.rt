@@ -7,8 +7,16 @@ ghost use Rattle.spec.specs.State.{robotOn, arrangementOf, acrossMove, cellOf};
 ghost use Rattle.motion.specs.States.{stateOf, stood, movedBy};
 ghost use Rattle.motion.specs.World.{worldOf, made, laidMove, oneMore};
 ghost use Rattle.motion.specs.Cells.{overlaid};
+
+mod reading;
+
 use numbering::Robot;
 use numbering::Vertex;
+pub use reading::is_full;
+pub use reading::place_of;
+pub use reading::robot_at;
+pub use reading::seek_robot;
+pub use reading::stands;
 use wire::put_byte;
 
 // The robot on each vertex and the vertex of each robot; 255 is no robot, and no vertex.
@@ -23,7 +31,8 @@ pub struct Run {
     pub count: usize,
 }
 
-fn least(a: usize, b: usize) -> usize
+// The lesser of two numbers.
+pub fn least(a: usize, b: usize) -> usize
     ensures { λ r. ⌜ r ≡ min a b ⌝ }
 {
     if a < b {
@@ -174,7 +183,7 @@ pub fn put_cell(cells: &mut [u8], i: usize, x: u8)
 }
 
 // A robot as what stands on a place.
-fn cell_of(r: Robot) -> u8
+pub fn cell_of(r: Robot) -> u8
     ensures { λ x. ⌜ x ≡ cellOf (r .0) ⌝ }
 {
     if r.0 == 255 {

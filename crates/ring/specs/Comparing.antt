@@ -24,7 +24,8 @@ use Rattle.motion.specs.Across.{arrangement-length, arrangement-at, arrangement
 use Rattle.motion.specs.Cells.{seek-same, seek-other}
 use Rattle.ring.specs.Places.{wrap-is, wrap-in}
 use Rattle.ring.specs.Runs.{frame-size, frame-robot}
-use Rattle.ring.specs.Reading.{vacant, seek-finds, places-taken, places-free, places-over}
+use Rattle.motion.specs.Reading.{places-taken, places-free, places-over}
+use Rattle.ring.specs.Reading.{vacant, seek-finds}
 
 -- ---- lists of robots, compared
 

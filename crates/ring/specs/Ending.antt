@@ -29,7 +29,7 @@ use Rattle.motion.specs.Across.{made-both, across-nil, arrangement-length}
 use Rattle.motion.specs.Coupling.{Listed, Inside, arranged}
 use Rattle.ring.specs.Pushes.{inside-pushes}
 use Rattle.ring.specs.Entry.{opened-at}
-use Rattle.ring.specs.Reading.{places-taken, places-free, places-over}
+use Rattle.motion.specs.Reading.{places-taken, places-free, places-over}
 use Rattle.ring.specs.Comparing.{end-full, end-open}
 
 -- ---- the lowest-numbered robot, read from the last place on

@@ -2,6 +2,7 @@
 use mathlib.Core.Path.{_≡_, refl, ap, sym, _∙_}
 use Prim.Native.Nat.{ℕ, zero, suc, _+_, _-_, _<_, _≤_}
 use mathlib.Core.Logic.{⊎-elim, _⊎_, inl, inr}
+use mathlib.Core.Bool.{Bool, true, false}
 use native.Mathlib.Numerals.{add-one}
 use native.Mathlib.Omega.{arith}
 use native.Mathlib.Decide.{decLt}
@@ -17,6 +18,21 @@ nextPlace m i = wrap m (suc i)
 -- the place before it
 abbrev pub previousPlace : ℕ → ℕ → ℕ
 previousPlace m i = wrap m (i + (m - 1))
+
+-- going forward the place after place i, else the place before it
+unfoldable pub besidePlace : ℕ → ℕ → Bool → ℕ
+besidePlace m i true = nextPlace m i
+besidePlace m i false = previousPlace m i
+
+-- forward
+pub beside-on : (m i : ℕ) (b : Bool) → b ≡ true → besidePlace m i b ≡ nextPlace m i
+unfolding besidePlace
+beside-on m i b e = rw e
+
+-- backward
+pub beside-back : (m i : ℕ) (b : Bool) → b ≡ false → besidePlace m i b ≡ previousPlace m i
+unfolding besidePlace
+beside-back m i b e = rw e
 
 -- a place counted round is one of two
 pub wrap-is : (m i : ℕ) → ((i < m) × (wrap m i ≡ i)) ⊎ ((m ≤ i) × (wrap m i ≡ i - m))

@@ -22,7 +22,8 @@ use Rattle.motion.specs.World.{World, madeAll, made-none}
 use Rattle.motion.specs.Across.{made-both, across-nil, arrangement-length, arrangement-at}
 use Rattle.motion.specs.Coupling.{Listed, arranged}
 use Rattle.ring.specs.Pushes.{inside-push}
-use Rattle.ring.specs.Reading.{never-256, robot-none}
+use Rattle.motion.specs.Reading.{seek-nobody}
+use Rattle.ring.specs.Reading.{never-256}
 use Rattle.ring.specs.Entry.{frame-opened, opened-at, last-stands, last-none}
 
 -- where the next push begins; the size where none is needed
@@ -227,7 +228,7 @@ module _ (s : State) (vs : List ℕ) (j named : ℕ) (h : j < length vs) where
           at = e ∙ turn-shut (arrangementOf s vs) j named d ∙ turn-free (arrangementOf s vs) j named z .1
 
           behind : Dec (ringBehind (arrangementOf s vs) j ≡ 255) → p < length vs
-          behind (yes q) = absurd (n (at ∙ sym (robot-none s vs (ringBehind (arrangementOf s vs) j) q)))
+          behind (yes q) = absurd (n (at ∙ sym (seek-nobody s vs (ringBehind (arrangementOf s vs) j) q)))
           behind (no q) = omega (arith, at, behind-stands (arrangementOf s vs) j inside q, arrangement-length s vs)
       free (suc r) z d = omega (arith, e ∙ turn-shut (arrangementOf s vs) j named d ∙ turn-taken (arrangementOf s vs) j named r z .1)
 

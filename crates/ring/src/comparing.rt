@@ -10,9 +10,9 @@ ghost use Rattle.motion.specs.States.{stateOf};
 ghost use Rattle.ring.specs.Comparing.{Taken};
 use crate::places::around;
 use crate::reading::is_vacant;
-use crate::reading::place_of;
 use crate::reading::robot_at;
 use motion::State;
+use motion::place_of;
 
 // Do the same robots stand on the same places.
 pub fn same_cells(s: State, goals: State, zone: &[u8]) -> bool

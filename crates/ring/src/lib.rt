@@ -29,15 +29,15 @@ use ending::lowest;
 use ending::open_at;
 use motion::Run;
 use motion::State;
+use motion::is_full;
+use motion::place_of;
+use motion::stands;
 use numbering::Robot;
 pub use places::next;
 pub use places::previous;
 pub use pushing::push;
 use pushing::push_to;
-use reading::is_full;
 use reading::is_vacant;
-use reading::place_of;
-use reading::stands;
 pub use turning::behind;
 use turning::turn_place;
 

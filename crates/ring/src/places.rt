@@ -2,7 +2,7 @@
 ghost use mathlib.Core.Path.{_≡_};
 ghost use Prim.Native.Nat.{_+_, _<_};
 ghost use Rattle.spec.specs.Ring.{ahead, wrap};
-ghost use Rattle.ring.specs.Places.{nextPlace, previousPlace};
+ghost use Rattle.ring.specs.Places.{nextPlace, previousPlace, besidePlace};
 
 // The place after place i of m.
 pub fn next(m: usize, i: usize) -> usize
@@ -25,6 +25,17 @@ pub fn previous(m: usize, i: usize) -> usize
         return m - 1;
     }
     i - 1
+}
+
+// The place beside place i of m: going forward the one after it, else the one before it.
+pub fn beside(m: usize, i: usize, forward: bool) -> usize
+    requires { ⌜ i < m ⌝ }
+    ensures { λ k. ⌜ k ≡ besidePlace m i forward ⌝ }
+{
+    if forward {
+        return next(m, i);
+    }
+    previous(m, i)
 }
 
 // How many places on from p is j, of m places.

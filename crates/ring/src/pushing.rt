@@ -9,12 +9,12 @@ ghost use Rattle.motion.specs.States.{stateOf};
 ghost use Rattle.motion.specs.World.{worldOf, madeAll};
 ghost use Rattle.motion.specs.Coupling.{Listed};
 ghost use Rattle.ring.specs.Pushes.{pushed};
+use crate::places::beside;
 use crate::places::distance;
 use crate::places::next;
-use crate::places::previous;
-use crate::reading::place_of;
 use motion::Run;
 use motion::make;
+use motion::place_of;
 use motion::robot_on;
 use motion::vertex_at;
 use numbering::Robot;
@@ -44,7 +44,7 @@ pub fn push(run: Run, zone: &[u8], p: usize, out: &mut [u8]) -> Run
     let mut run = run;
     let mut to = end;
     while 0 < k {
-        let from = previous(m, to);
+        let from = beside(m, to, false);
         let v = vertex_at(zone, from);
         let w = vertex_at(zone, to);
         let r = robot_on(s, v);

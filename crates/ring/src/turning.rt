@@ -8,9 +8,9 @@ ghost use Rattle.motion.specs.States.{stateOf};
 ghost use Rattle.ring.specs.Entry.{Behind};
 ghost use Rattle.ring.specs.Turns.{turnAt};
 use crate::places::previous;
-use crate::reading::place_of;
 use crate::reading::robot_at;
 use motion::State;
+use motion::place_of;
 use numbering::Robot;
 
 // The place of the first robot met going backward from place j; j where none is met.

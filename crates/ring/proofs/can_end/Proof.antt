@@ -11,7 +11,6 @@ use Rattle.ring.proofs.can_end.Reads as reads
 use Rattle.ring.proofs.can_end.Lts as lts
 use Rattle.ring.proofs.comparing.same_cells.Reads as same-cells-reads
 use Rattle.ring.proofs.comparing.same_turned.Reads as same-turned-reads
-use Rattle.ring.proofs.reading.is_full.Reads as is-full-reads
 
 -- src/lib.rt:99:8
 is-full-requires : tie.Need-is-full-requires

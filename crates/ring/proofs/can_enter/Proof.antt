@@ -10,7 +10,6 @@ use Rattle.ring.proofs.can_enter.Tie as tie
 use Rattle.ring.proofs.can_enter.Reads as reads
 use Rattle.ring.proofs.can_enter.Lts as lts
 use Rattle.ring.proofs.reading.is_vacant.Reads as is-vacant-reads
-use Rattle.ring.proofs.reading.place_of.Reads as place-of-reads
 
 -- src/lib.rt:59:8
 place-of-requires : tie.Need-place-of-requires

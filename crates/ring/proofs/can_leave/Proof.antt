@@ -9,9 +9,6 @@ use Rattle.ring.proofs.can_leave.Statement.{statement}
 use Rattle.ring.proofs.can_leave.Tie as tie
 use Rattle.ring.proofs.can_leave.Reads as reads
 use Rattle.ring.proofs.can_leave.Lts as lts
-use Rattle.ring.proofs.reading.is_full.Reads as is-full-reads
-use Rattle.ring.proofs.reading.place_of.Reads as place-of-reads
-use Rattle.ring.proofs.reading.stands.Reads as stands-reads
 
 -- src/lib.rt:39:8
 is-full-requires : tie.Need-is-full-requires

@@ -24,8 +24,8 @@ least-requires c κs = search needs
 loop-holds : tie.Need-loop-holds Inv-loop μ-loop
 loop-holds c = (search needs, c .least .ensures, refl, refl)
 
-shared-slice-read-cell-of : tie.Need-shared-slice-read-cell-of Inv-loop μ-loop
-shared-slice-read-cell-of c = search needs
+shared-slice-read-t10 : tie.Need-shared-slice-read-t10 Inv-loop μ-loop
+shared-slice-read-t10 c = search needs
 
 cell-of-requires : tie.Need-cell-of-requires Inv-loop μ-loop
 cell-of-requires c κs = search needs
@@ -65,7 +65,7 @@ list-cells-spec =
     μ-loop
     least-requires
     loop-holds
-    shared-slice-read-cell-of
+    shared-slice-read-t10
     cell-of-requires
     slice-write-cells
     add-k

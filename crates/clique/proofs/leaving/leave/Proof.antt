@@ -1,15 +1,13 @@
-use Rattle.spec.specs.Clique.{makeRoom}
 use borrow.Author.Needs.{needs}
 use Prim.Native.Nat.{ℕ, suc}
-use mathlib.Core.Path.{refl, ap, sym, _∙_}
-use mathlib.Core.List.{List}
+use mathlib.Core.Path.{_≡_, refl, ap, ap₂, sym, _∙_}
 use lib.ListN.{getD}
-use Rattle.spec.specs.Arrangement.{Move, mv, seek}
-use Rattle.spec.specs.State.{arrangementOf, across}
+use Rattle.spec.specs.Arrangement.{mv, seek}
+use Rattle.spec.specs.State.{arrangementOf, acrossMove}
 use Rattle.motion.specs.States.{stateOf}
-use Rattle.motion.specs.World.{worldOf, made, madeAll}
-use Rattle.motion.specs.Across.{across-move, made-last}
-use Rattle.clique.specs.Leaving.{leave-stays, leave-goes, made-nothing}
+use Rattle.motion.specs.World.{World, worldOf, made}
+use Rattle.motion.specs.Across.{across-move}
+use Rattle.clique.specs.Leaving.{leave-stays, leave-alone, leave-both, made-nothing, made-single, made-pair}
 use Rattle.clique.proofs.leaving.leave.Statement.{statement}
 use Rattle.clique.proofs.leaving.leave.Tie as tie
 
@@ -30,23 +28,44 @@ vertex-at-requires c κs = search needs
 vertex-at-requires-2 : tie.Need-vertex-at-requires-2
 vertex-at-requires-2 c κs = search needs
 
-make-room-requires : tie.Need-make-room-requires
-make-room-requires c κs = search needs
+robot-at-requires : tie.Need-robot-at-requires
+robot-at-requires c κs = search needs
 
-make-requires : tie.Need-make-requires
-make-requires c κs = search needs
+make-move-requires : tie.Need-make-move-requires
+make-move-requires c κs = search needs
 
 same-length : tie.Need-same-length
 same-length c = search needs
 
 returns-2 : tie.Need-returns-2
-returns-2 c = let a = c .before .before .before .before .before .before .before .before .before .before .before .before .before .before .before .before .args in
+returns-2 c = let a = c .before .before .before .before .before .before .before .before .before .before .before .before .before .before .before .args in
     let z = a .zone .now in
     let g = arrangementOf (stateOf (a .run .state)) z in
-    let m = mv (a .r .0) (seek (suc (a .r .0)) g) (a .j) in
-    made-last (worldOf (a .run) (a .out .now)) _ _ z m (makeRoom g (a .j)) (c .before .before .before .before .before .before .make-room .ensures)
-    (c .before .before .make .ensures ∙ ap (made _) (across-move z _ (a .r .0) (seek (suc (a .r .0)) g) (a .j) _ _ refl (c .before .before .before .before .before .before .before .before .before .vertex-at .ensures ∙ ap (λ (i : ℕ). getD z i 0) (c .before .before .before .before .before .before .before .before .before .before .place-of .ensures)) (c .before .before .before .before .before .before .before .before .vertex-at2 .ensures)))
-    ∙ ap (λ (ms : List Move). madeAll (worldOf (a .run) (a .out .now)) (across z ms)) (sym (leave-goes g (a .r .0) (a .j) (sym (c .before .before .before .before .before .before .before .before .before .before .before .if1 .left) ∙ c .before .before .before .before .before .before .before .before .before .before .before .before .stands .ensures)))
+    let w = worldOf (a .run) (a .out .now) in
+    made-single w _ z (mv (a .r .0) (seek (suc (a .r .0)) g) (a .j)) _
+    (c .before .before .make-move .ensures ∙ ap (made w) (across-move z _ (a .r .0) (seek (suc (a .r .0)) g) (a .j) _ _ refl (c .before .before .before .before .before .before .before .before .vertex-at .ensures ∙ ap (λ (i : ℕ). getD z i 0) (c .before .before .before .before .before .before .before .before .before .place-of .ensures)) (c .before .before .before .before .before .before .before .vertex-at2 .ensures)))
+    (leave-alone g (a .r .0) (a .j) (c .before .before .before .before .before .before .robot-at .result .0) (sym (c .before .before .before .before .before .before .before .before .before .before .if1 .left) ∙ c .before .before .before .before .before .before .before .before .before .before .before .stands .ensures) (c .before .before .before .before .before .before .robot-at .ensures) (c .before .before .before .before .if2 .taken))
+
+room-move-requires : tie.Need-room-move-requires
+room-move-requires c κs = search needs
+
+make-in-turn-requires : tie.Need-make-in-turn-requires
+make-in-turn-requires c κs = search needs
+
+same-length-2 : tie.Need-same-length-2
+same-length-2 c = search needs
+
+returns-3 : tie.Need-returns-3
+returns-3 c = let a = c .before .before .before .before .before .before .before .before .before .before .before .before .before .before .before .before .args in
+    let z = a .zone .now in
+    let g = arrangementOf (stateOf (a .run .state)) z in
+    let w = worldOf (a .run) (a .out .now) in
+    let r = a .r .0 in
+    let x = c .before .before .before .before .before .before .before .robot-at .result .0 in
+    let leaver : mv r (c .before .before .before .before .before .before .before .before .before .vertex-at .result .0) (c .before .before .before .before .before .before .before .before .vertex-at2 .result .0) ≡ acrossMove z (mv r (seek (suc r) g) (a .j)) = across-move z _ r (seek (suc r) g) (a .j) _ _ refl (c .before .before .before .before .before .before .before .before .before .vertex-at .ensures ∙ ap (λ (i : ℕ). getD z i 0) (c .before .before .before .before .before .before .before .before .before .before .place-of .ensures)) (c .before .before .before .before .before .before .before .before .vertex-at2 .ensures) in
+    made-pair w _ z (mv x (a .j) (seek 0 g)) (mv r (seek (suc r) g) (a .j)) _
+    (c .before .before .make-in-turn .ensures ∙ ap₂ (λ (u : World) m. made u m) (ap (made w) (c .before .before .before .before .room-move .ensures)) leaver)
+    (leave-both g r (a .j) x (sym (c .before .before .before .before .before .before .before .before .before .before .before .if1 .left) ∙ c .before .before .before .before .before .before .before .before .before .before .before .before .stands .ensures) (c .before .before .before .before .before .before .before .robot-at .ensures) (c .before .before .before .before .before .if2 .left))
 
 pub leave-spec : {M : Type 1} → statement M
 leave-spec =
@@ -57,7 +76,11 @@ leave-spec =
     place-of-requires
     vertex-at-requires
     vertex-at-requires-2
-    make-room-requires
-    make-requires
+    robot-at-requires
+    make-move-requires
     same-length
-    returns-2)
+    returns-2
+    room-move-requires
+    make-in-turn-requires
+    same-length-2
+    returns-3)

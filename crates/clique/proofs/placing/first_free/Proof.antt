@@ -6,7 +6,7 @@ use Rattle.spec.specs.Arrangement.{seek}
 use Rattle.spec.specs.State.{arrangementOf}
 use Rattle.motion.specs.States.{stateOf}
 use Rattle.clique.specs.Places.{free-seek}
-use lib.Count.{trailingZeros, trailing-le, leading-le}
+use lib.Count.{trailingZeros}
 use Rattle.theory.specs.Maps.Cells.{cell-none}
 use Rattle.clique.proofs.placing.first_free.Statement.{statement}
 use Rattle.clique.proofs.placing.first_free.Tie as tie
@@ -14,12 +14,12 @@ use Rattle.clique.proofs.placing.first_free.Tie as tie
 free-word-requires : tie.Need-free-word-requires
 free-word-requires c κs = search needs
 
-cast-result : tie.Need-cast-result
-cast-result c = omega (arith, trailing-le 64 (c .before .free-word .result), leading-le 64 (c .before .free-word .result))
+earliest-requires : tie.Need-earliest-requires
+earliest-requires c κs = search needs
 
 returns : tie.Need-returns
-returns c = let e = c .before .free-word .ensures in
-    ap (trailingZeros 64) e ∙ free-seek 64 (arrangementOf (stateOf (c .before .before .before .args .s)) (c .before .before .before .args .zone .now)) (omega (arith, e))
+returns c = let e = c .before .before .free-word .ensures in
+    c .earliest .ensures ∙ ap (trailingZeros 64) e ∙ free-seek 64 (arrangementOf (stateOf (c .before .before .before .before .args .s)) (c .before .before .before .before .args .zone .now)) (omega (arith, e))
 
 seek-robot-requires : tie.Need-seek-robot-requires
 seek-robot-requires c κs = search needs
@@ -29,4 +29,4 @@ returns-2 c = c .seek-robot .ensures ∙ ap (λ (x : ℕ). seek x (arrangementOf
 
 pub first-free-spec : {M : Type 1} → statement M
 first-free-spec =
-    tie.close (tie.spec free-word-requires cast-result returns seek-robot-requires returns-2)
+    tie.close (tie.spec free-word-requires earliest-requires returns seek-robot-requires returns-2)

@@ -1,12 +1,13 @@
 use borrow.Author.Needs.{needs}
 use native.Mathlib.Omega.{arith}
-use Prim.Native.Nat.{ℕ, _+_, _-_, _*_, _≤_}
-use mathlib.Core.Path.{_≡_, ap, sym, _∙_}
+use Prim.Native.Nat.{ℕ, _-_, _≤_}
+use mathlib.Core.Path.{_≡_, ap, _∙_}
 use lib.ListN.{length, drop}
 use Rattle.spec.specs.State.{arrangementOf}
 use Rattle.motion.specs.States.{stateOf}
-use Rattle.clique.specs.Places.{freeWord, free-empty, free-taken}
-use Rattle.clique.specs.Places.{free-half, free-start}
+use Rattle.motion.specs.Across.{arrangement-length}
+use Rattle.clique.specs.Places.{freeWord, free-half, free-start, free-empty, free-taken}
+use Rattle.motion.specs.Reading.{empty-here, taken-here}
 use Rattle.clique.proofs.placing.free_word.Statement.{statement}
 use Rattle.clique.proofs.placing.free_word.Tie as tie
 
@@ -20,7 +21,8 @@ least-requires : tie.Need-least-requires Inv-loop μ-loop
 least-requires c κs = search needs
 
 loop-holds : tie.Need-loop-holds Inv-loop μ-loop
-loop-holds c = (search needs, search needs, free-start (stateOf (c .before .before .args .s)) (c .before .before .args .zone .now) (c .least .result) (c .least .ensures))
+loop-holds c = let a = arrangementOf (stateOf (c .before .before .args .s)) (c .before .before .args .zone .now) in
+    (search needs, search needs, free-start a (c .least .result) (omega (arith, c .least .ensures, arrangement-length (stateOf (c .before .before .args .s)) (c .before .before .args .zone .now))))
 
 sub-k : tie.Need-sub-k Inv-loop μ-loop
 sub-k c = search needs
@@ -49,9 +51,12 @@ loop-less c = search needs
 loop-again : tie.Need-loop-again Inv-loop μ-loop
 loop-again c = let a = c .before .before .before .before .before .before .before .before .args in
     let o = c .before .before .before .before .before .loop in
-    let d : o .k - 1 + 1 ≡ o .k = omega arith in
-    let w : o .w ≡ freeWord (64 - (o .k - 1 + 1)) (drop (o .k - 1 + 1) (arrangementOf (stateOf (a .s)) (a .zone .now))) = o .inv .2 ∙ ap (λ (i : ℕ). freeWord (64 - i) (drop i (arrangementOf (stateOf (a .s)) (a .zone .now)))) (sym d) in
-    (omega arith, omega arith, ap (λ (x : ℕ). x * 2 + 1) w ∙ sym (free-empty (stateOf (a .s)) (a .zone .now) (o .k - 1) (c .before .before .robot-on .result .0) (omega arith) (omega arith) (c .before .before .robot-on .ensures) (c .if1 .taken)))
+    let n = arrangement-length (stateOf (a .s)) (a .zone .now) in (
+      omega arith,
+      omega arith,
+      free-empty (arrangementOf (stateOf (a .s)) (a .zone .now)) (o .k) (o .w) (c .before .before .before .before .loop-test .taken) (omega (arith, n)) (o .inv .1) (o .inv .2)
+          (empty-here (stateOf (a .s)) (a .zone .now) (o .k - 1) (c .before .before .robot-on .result .0) (omega arith) (c .before .before .robot-on .ensures) (c .if1 .taken)),
+    )
 
 loop-less-2 : tie.Need-loop-less-2 Inv-loop μ-loop
 loop-less-2 c = search needs
@@ -59,9 +64,12 @@ loop-less-2 c = search needs
 loop-again-2 : tie.Need-loop-again-2 Inv-loop μ-loop
 loop-again-2 c = let a = c .before .before .before .before .before .before .before .before .args in
     let o = c .before .before .before .before .before .loop in
-    let d : o .k - 1 + 1 ≡ o .k = omega arith in
-    let w : o .w ≡ freeWord (64 - (o .k - 1 + 1)) (drop (o .k - 1 + 1) (arrangementOf (stateOf (a .s)) (a .zone .now))) = o .inv .2 ∙ ap (λ (i : ℕ). freeWord (64 - i) (drop i (arrangementOf (stateOf (a .s)) (a .zone .now)))) (sym d) in
-    (omega arith, omega arith, ap (λ (x : ℕ). x * 2) w ∙ sym (free-taken (stateOf (a .s)) (a .zone .now) (o .k - 1) (c .before .before .robot-on .result .0) (omega arith) (omega arith) (c .before .before .robot-on .ensures) (c .if1 .left)))
+    let n = arrangement-length (stateOf (a .s)) (a .zone .now) in (
+      omega arith,
+      omega arith,
+      free-taken (arrangementOf (stateOf (a .s)) (a .zone .now)) (o .k) (o .w) (c .before .before .before .before .loop-test .taken) (omega (arith, n)) (o .inv .1) (o .inv .2)
+          (taken-here (stateOf (a .s)) (a .zone .now) (o .k - 1) (c .before .before .robot-on .result .0) (omega arith) (c .before .before .robot-on .ensures) (c .if1 .left)),
+    )
 
 returns : tie.Need-returns Inv-loop μ-loop
 returns c = let a = c .before .before .before .before .args in

@@ -74,8 +74,8 @@ returns c = let a = c .before .before .before .before .before .before .before .b
 seek-cell-requires-2 : tie.Need-seek-cell-requires-2 Inv-loop μ-loop
 seek-cell-requires-2 c κs = search needs
 
-seek-cell-requires-3 : tie.Need-seek-cell-requires-3 Inv-loop μ-loop
-seek-cell-requires-3 c κs = search needs
+first-empty-requires : tie.Need-first-empty-requires Inv-loop μ-loop
+first-empty-requires c κs = search needs
 
 go-requires-2 : tie.Need-go-requires-2 Inv-loop μ-loop
 go-requires-2 c κs = search needs
@@ -90,11 +90,11 @@ loop-again-2 c = let a = c .before .before .before .before .before .before .befo
     let q = c .before .before .before .before .before .before .before .before .before .before .before .before .before .before .before .open-target .result in
     let x = c .before .before .before .before .before .before .before .before .before .before .before .before .lowest-off .result in
     let i = c .before .before .before .before .before .before .before .before .before .seek-cell2 .result in
-    let f = c .before .before .before .before .before .before .before .seek-cell3 .result in (
+    let f = c .before .before .before .before .before .before .before .first-empty .result in (
       search needs,
       search needs,
       made-more (worldOf (o .run) (o .out)) _ z (mv (x - 1) i f) _ _ (c .before .before .before .before .go2 .ensures .0)
-          (to-room (o .left) (o .cells) _ (a .goal .now) q x i f (c .before .before .before .before .before .before .before .before .before .before .before .before .before .before .before .before .before .loop-test .taken) (c .before .before .before .before .before .before .before .before .before .before .before .before .before .before .before .open-target .ensures) (c .before .before .before .before .before .before .before .before .before .before .before .before .before .before .if1 .left) (c .before .before .before .before .before .before .before .before .before .before .before .before .lowest-off .ensures) (c .before .before .before .before .before .before .before .before .before .before .before .if2 .left) (c .before .before .before .before .before .before .before .before .before .seek-cell2 .ensures) (c .before .before .before .before .before .before .before .seek-cell3 .ensures) (c .before .before .before .before .go2 .ensures .1))
+          (to-room (o .left) (o .cells) _ (a .goal .now) q x i f (c .before .before .before .before .before .before .before .before .before .before .before .before .before .before .before .before .before .loop-test .taken) (c .before .before .before .before .before .before .before .before .before .before .before .before .before .before .before .open-target .ensures) (c .before .before .before .before .before .before .before .before .before .before .before .before .before .before .if1 .left) (c .before .before .before .before .before .before .before .before .before .before .before .before .lowest-off .ensures) (c .before .before .before .before .before .before .before .before .before .before .before .if2 .left) (c .before .before .before .before .before .before .before .before .before .seek-cell2 .ensures) (c .before .before .before .before .before .before .before .first-empty .ensures) (c .before .before .before .before .go2 .ensures .1))
           ∙ o .inv .2,
     )
 
@@ -128,7 +128,7 @@ go-toward-spec =
     same-length-2
     returns
     seek-cell-requires-2
-    seek-cell-requires-3
+    first-empty-requires
     go-requires-2
     loop-less-2
     loop-again-2

@@ -15,7 +15,6 @@ use Rattle.ring.proofs.comparing.same_turned.Lts as lts
 use Rattle.ring.proofs.comparing.same_round.Reads as same-round-reads
 use Rattle.ring.proofs.comparing.taken_from.Reads as taken-from-reads
 use Rattle.ring.proofs.reading.is_vacant.Reads as is-vacant-reads
-use Rattle.ring.proofs.reading.place_of.Reads as place-of-reads
 use Rattle.ring.proofs.reading.robot_at.Reads as robot-at-reads
 
 -- src/comparing.rt:83:9

@@ -3,6 +3,7 @@ use native.Mathlib.Omega.{arith}
 use Prim.Native.Nat.{ℕ, _+_, _-_, _≤_, _<_}
 use mathlib.Core.Path.{_≡_, refl, ap, sym, _∙_}
 use mathlib.Core.Logic.{⊎-elim}
+use mathlib.Core.Bool.{false}
 use lib.ListN.{length, getD}
 use Rattle.spec.specs.Arrangement.{mv}
 use Rattle.spec.specs.Ring.{wrap}
@@ -10,7 +11,7 @@ use Rattle.spec.specs.State.{robotOn, across, acrossMove}
 use Rattle.motion.specs.States.{stateOf}
 use Rattle.motion.specs.World.{worldOf, made, madeAll, made-none}
 use Rattle.motion.specs.Across.{across-nil, across-move}
-use Rattle.ring.specs.Places.{previousPlace, nextPlace, wrap-in, wrap-under, wrap-next, wrap-previous}
+use Rattle.ring.specs.Places.{previousPlace, nextPlace, beside-back, wrap-in, wrap-under, wrap-next, wrap-previous}
 use Rattle.ring.specs.Runs.{runAt, runFrom, run-on, run-stops, run-round, run-robot}
 use Rattle.ring.specs.Pushes.{pushFrom, push-none, push-all, push-step}
 use Rattle.ring.proofs.pushing.push.Statement.{statement}
@@ -21,7 +22,7 @@ use Rattle.motion.proofs.make.Reads as make-reads
 use Rattle.motion.proofs.robot_on.Reads as robot-on-reads
 use Rattle.motion.proofs.vertex_at.Reads as vertex-at-reads
 use Rattle.ring.proofs.places.next.Reads as next-reads
-use Rattle.ring.proofs.places.previous.Reads as previous-reads
+use Rattle.ring.proofs.places.beside.Reads as beside-reads
 
 abbrev Inv-loop : tie.InvT-loop
 Inv-loop run zone p out s m at₀ k₀ at k = (m ≡ length zone) × (k ≤ length zone) × (at ≡ wrap (length zone) (p + k)) × (k + runFrom (stateOf s) zone p k ≡ length (runAt (stateOf s) zone p))
@@ -101,8 +102,8 @@ loop2-holds c =
     (c .if1 .came)
 
 -- src/pushing.rt:43:13
-previous-requires : tie.Need-previous-requires Inv-loop μ-loop Inv-loop2 μ-loop2
-previous-requires c κs =
+beside-requires : tie.Need-beside-requires Inv-loop μ-loop Inv-loop2 μ-loop2
+beside-requires c κs =
     let a = c .before .before .before .before .before .before .before .args in
     let o = c .before .loop2 in
     omega (arith, wrap-under (length (a .zone .now)) (a .p) (o .k) (search needs) (omega arith))
@@ -143,7 +144,7 @@ loop2-again c =
     let h : a .p < m = search needs in
     let l : k < m = omega arith in
     let b : o .to ≡ wrap m (a .p + (k + 1)) = o .inv .4 ∙ ap (λ (i : ℕ). wrap m (a .p + i)) (omega arith) in
-    let d : c .before .before .before .before .before .before .before .previous .result ≡ wrap m (a .p + k) = c .before .before .before .before .before .before .before .previous .ensures ∙ ap (previousPlace m) b ∙ wrap-previous m (a .p) k h l in
+    let d : c .before .before .before .before .before .before .before .beside .result ≡ wrap m (a .p + k) = c .before .before .before .before .before .before .before .beside .ensures ∙ beside-back m (o .to) false refl ∙ ap (previousPlace m) b ∙ wrap-previous m (a .p) k h l in
     let v : c .before .before .before .before .before .before .vertex-at2 .result .0 ≡ getD z (wrap m (a .p + k)) 0 = c .before .before .before .before .before .before .vertex-at2 .ensures ∙ ap (λ (i : ℕ). getD z i 0) d in
     let r : c .before .before .before .before .robot-on2 .result .0 ≡ getD (runAt s z (a .p)) k 0 = run-robot s z (a .p) h k (c .before .before .before .before .robot-on2 .result .0) (omega arith) l (c .before .before .before .before .robot-on2 .ensures ∙ ap (robotOn s) v) in (
       search needs,
@@ -151,9 +152,9 @@ loop2-again c =
       omega arith,
       omega arith,
       d,
-      push-step (worldOf (a .run) (a .out .now)) (worldOf (o .run) (o .out)) _ s z (a .p) k (c .before .before .before .before .robot-on2 .result .0) (c .before .before .before .before .before .before .before .previous .result) (o .to) (omega arith) r d b
+      push-step (worldOf (a .run) (a .out .now)) (worldOf (o .run) (o .out)) _ s z (a .p) k (c .before .before .before .before .robot-on2 .result .0) (c .before .before .before .before .before .before .before .beside .result) (o .to) (omega arith) r d b
           (o .inv .5 ∙ ap (λ (i : ℕ). madeAll (worldOf (a .run) (a .out .now)) (across z (pushFrom s z (a .p) i))) (omega arith))
-          (c .before .before .make .ensures ∙ ap (made (worldOf (o .run) (o .out))) (across-move z _ (c .before .before .before .before .robot-on2 .result .0) (c .before .before .before .before .before .before .before .previous .result) (o .to) _ _ refl (c .before .before .before .before .before .before .vertex-at2 .ensures) (c .before .before .before .before .before .vertex-at3 .ensures))),
+          (c .before .before .make .ensures ∙ ap (made (worldOf (o .run) (o .out))) (across-move z _ (c .before .before .before .before .robot-on2 .result .0) (c .before .before .before .before .before .before .before .beside .result) (o .to) _ _ refl (c .before .before .before .before .before .before .vertex-at2 .ensures) (c .before .before .before .before .before .vertex-at3 .ensures))),
     )
 
 -- src/pushing.rt:20:1
@@ -186,7 +187,7 @@ push-spec =
     loop-less
     loop-again
     loop2-holds
-    previous-requires
+    beside-requires
     vertex-at-requires-2
     vertex-at-requires-3
     robot-on-requires-2

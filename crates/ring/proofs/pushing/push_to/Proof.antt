@@ -13,7 +13,6 @@ use Rattle.ring.proofs.pushing.push_to.Reads as reads
 use Rattle.ring.proofs.pushing.push_to.Lts as lts
 use Rattle.ring.proofs.places.distance.Reads as distance-reads
 use Rattle.ring.proofs.pushing.push_times.Reads as push-times-reads
-use Rattle.ring.proofs.reading.place_of.Reads as place-of-reads
 
 -- src/pushing.rt:83:9
 place-of-requires : tie.Need-place-of-requires

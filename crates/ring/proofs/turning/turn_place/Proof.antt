@@ -6,7 +6,6 @@ use Rattle.ring.proofs.turning.turn_place.Statement.{statement}
 use Rattle.ring.proofs.turning.turn_place.Tie as tie
 use Rattle.ring.proofs.turning.turn_place.Reads as reads
 use Rattle.ring.proofs.turning.turn_place.Lts as lts
-use Rattle.ring.proofs.reading.place_of.Reads as place-of-reads
 use Rattle.ring.proofs.reading.robot_at.Reads as robot-at-reads
 use Rattle.ring.proofs.turning.behind.Reads as behind-reads
 

@@ -3,11 +3,11 @@ use Prim.Native.Nat.{ℕ}
 use mathlib.Core.Path.{ap, _∙_}
 use Rattle.spec.specs.Arrangement.{seek}
 use Rattle.spec.specs.State.{arrangementOf}
 use Rattle.motion.specs.States.{stateOf}
-use Rattle.clique.specs.Places.{seek-nobody}
+use Rattle.motion.specs.Reading.{seek-nobody}
 use Rattle.theory.specs.Maps.Cells.{cell-of}
-use Rattle.clique.proofs.placing.place_of.Statement.{statement}
-use Rattle.clique.proofs.placing.place_of.Tie as tie
+use Rattle.motion.proofs.reading.place_of.Statement.{statement}
+use Rattle.motion.proofs.reading.place_of.Tie as tie
 
 returns : tie.Need-returns
 returns c = seek-nobody (stateOf (c .before .before .before .args .s)) (c .before .before .before .args .zone .now) (c .before .before .before .args .r .0) (c .if1 .taken)

@@ -1,7 +1,7 @@
 use borrow.Author.Needs.{needs}
-use Rattle.clique.specs.Places.{stands-not, stands-is}
-use Rattle.clique.proofs.placing.stands.Statement.{statement}
-use Rattle.clique.proofs.placing.stands.Tie as tie
+use Rattle.motion.specs.Reading.{stands-not, stands-is}
+use Rattle.motion.proofs.reading.stands.Statement.{statement}
+use Rattle.motion.proofs.reading.stands.Tie as tie
 
 robot-at-requires : tie.Need-robot-at-requires
 robot-at-requires c κs = search needs

@@ -1,8 +1,8 @@
 use borrow.Author.Needs.{needs}
 use Rattle.motion.specs.States.{stateOf}
-use Rattle.clique.specs.Places.{robot-here, robot-past}
-use Rattle.clique.proofs.placing.robot_at.Statement.{statement}
-use Rattle.clique.proofs.placing.robot_at.Tie as tie
+use Rattle.motion.specs.Reading.{robot-here, robot-past}
+use Rattle.motion.proofs.reading.robot_at.Statement.{statement}
+use Rattle.motion.proofs.reading.robot_at.Tie as tie
 
 shared-slice-read-t7 : tie.Need-shared-slice-read-t7
 shared-slice-read-t7 c = search needs

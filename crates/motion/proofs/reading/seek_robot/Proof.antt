@@ -5,10 +5,10 @@ use mathlib.Core.Path.{_≡_, _∙_}
 use lib.ListN.{length, drop}
 use Rattle.spec.specs.Arrangement.{seek}
 use Rattle.spec.specs.State.{arrangementOf, cellOf}
 use Rattle.motion.specs.States.{stateOf}
-use Rattle.clique.specs.Places.{seek-here, seek-further, seek-none}
-use Rattle.clique.proofs.placing.seek_robot.Statement.{statement}
-use Rattle.clique.proofs.placing.seek_robot.Tie as tie
+use Rattle.motion.specs.Reading.{seek-here, seek-further, seek-none}
+use Rattle.motion.proofs.reading.seek_robot.Statement.{statement}
+use Rattle.motion.proofs.reading.seek_robot.Tie as tie
 
 abbrev Inv-loop : tie.InvT-loop
 Inv-loop s zone r i₀ i = (i ≤ length zone) × (i + seek (cellOf (r .0)) (drop i (arrangementOf (stateOf s) zone)) ≡ seek (cellOf (r .0)) (arrangementOf (stateOf s) zone))
