@@ -1,0 +1,2 @@
+-- A zone's configuration kept as the list of its robots.
+pub mod Orders
