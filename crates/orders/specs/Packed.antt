@@ -4,18 +4,18 @@ use mathlib.Core.Bool.{Bool}
 use mathlib.Core.List.{List, [], _∷_, _++_, map, append-nil}
 use Prim.Native.Nat.{ℕ, suc, _+_, _-_, _≤_, _<_}
 use native.Mathlib.Omega.{arith}
-use lib.ListN.{length, getD, take, drop, replicate, length-append, length-map, length-replicate, length-take, length-drop, List·getD-append}
+use lib.ListN.{length, getD, replicate, length-append, length-map, length-replicate, List·getD-append}
 use lib.Seq.{getD-append-add}
 use lib.Dec.{eqb}
 use Rattle.spec.specs.Arrangement.{Arrangement, cell, order, full, lastFree}
 use Rattle.theory.specs.Basics.Lists.{getD-map, getD-uniform}
 use Rattle.spec.specs.Terms.{Reachable}
 use Rattle.theory.specs.Zones.Arrangements.{order-append, order-short}
-use Rattle.theory.specs.Zones.Moves.{reach-trans}
+use Rattle.theory.specs.Zones.Moves.{reach-sym, reach-trans}
 use Rattle.theory.specs.Zones.Hall.Places.{order-none}
 use Rattle.theory.specs.Zones.Hall.Ending.{hall-reach}
 use Rattle.theory.specs.Zones.Crossing.{Proper, kept}
-use Rattle.orders.specs.Orders.{packed, Holds, without, putIn}
+use Rattle.orders.specs.Orders.{packed, Holds}
 
 -- ---- a packed arrangement
 
@@ -77,6 +77,10 @@ holds-from kind l a b s e =
     let m = kept s .long in
     record { fits = rw m (h .fits); reach = reach-trans s (rw m (h .reach)) }
 
+-- the list of an arrangement is that of those which it reaches
+pub holds-moved : {kind : ℕ} {l : List ℕ} {a b : Arrangement} → Reachable kind a b → Holds kind l a → Holds kind l b
+holds-moved s h = record { fits = rw (← (kept s .long)) (h .fits); reach = reach-trans (reach-sym s) (rw (← (kept s .long)) (h .reach)) }
+
 -- at the start it is that of the starts
 pub holds-start : (kind : ℕ) (a : Arrangement) → Proper a → Holds kind (order a) a
 holds-start kind a p = holds-order kind (order a) a refl
@@ -84,15 +88,3 @@ holds-start kind a p = holds-order kind (order a) a refl
 -- there are as many robots as the list is long
 pub holds-count : (kind : ℕ) (l : List ℕ) (a : Arrangement) → Holds kind l a → length (order a) ≡ length l
 holds-count kind l a h = kept (h .reach) .count ∙ ap length (packed-order (length a) l)
-
--- ---- how long the lists are after a crossing
-
--- one shorter without an element
-pub without-length : (t : ℕ) (l : List ℕ) → t < length l → length (without t l) ≡ length l - 1
-unfolding without
-without-length t l h = length-append (take t l) (drop (suc t) l) ∙ omega (arith, length-take t l, length-drop (suc t) l)
-
--- one longer with a robot put in
-pub put-length : (t r : ℕ) (l : List ℕ) → length (putIn t r l) ≡ suc (length l)
-unfolding putIn
-put-length t r l = length-append (take t l) (r ∷ drop t l) ∙ omega (arith, length-take t l, length-drop t l)
