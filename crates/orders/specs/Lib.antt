@@ -5,3 +5,4 @@ pub mod Lengths
 pub mod Putting
 pub mod Leaving
 pub mod Entering
+pub mod Tests
