@@ -1,0 +1,2 @@
+-- Judging on configurations.
+pub mod Lists

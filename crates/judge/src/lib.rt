@@ -1,0 +1,4 @@
+// Judging on configurations: each zone as the list of its robots, and no move is made.
+//
+//     lists   lists of robots in lent bytes
+pub mod lists;
