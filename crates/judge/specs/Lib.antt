@@ -1,2 +1,6 @@
 -- Judging on configurations.
 pub mod Lists
+pub mod Held
+pub mod Steps
+pub mod Making
+pub mod Judging

@@ -17,11 +17,11 @@ pub record Rewritten (p : List ℕ) (n : ℕ) (l : List ℕ) (q : List ℕ) : Ty
 -- ---- appended lists, element by element
 
 -- an element of the first
-append-left : (xs ys : List ℕ) (n k : ℕ) → length xs ≡ n → k < n → getD (xs ++ ys) k 0 ≡ getD xs k 0
+pub append-left : (xs ys : List ℕ) (n k : ℕ) → length xs ≡ n → k < n → getD (xs ++ ys) k 0 ≡ getD xs k 0
 append-left xs ys n k e h = List·getD-append xs ys 0 k (omega (arith, e))
 
 -- an element of the second
-append-right : (xs ys : List ℕ) (n k : ℕ) → length xs ≡ n → n ≤ k → getD (xs ++ ys) k 0 ≡ getD ys (k - n) 0
+pub append-right : (xs ys : List ℕ) (n k : ℕ) → length xs ≡ n → n ≤ k → getD (xs ++ ys) k 0 ≡ getD ys (k - n) 0
 append-right xs ys n k e h =
     let q : k ≡ length xs + (k - n) = omega (arith, e) in
     ap (λ (i : ℕ). getD (xs ++ ys) i 0) q ∙ getD-append-add xs ys (k - n) 0
