@@ -1,2 +1,3 @@
 -- Judging on configurations.
 pub mod Lists
+pub mod Zone

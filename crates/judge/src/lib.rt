@@ -1,4 +1,6 @@
 // Judging on configurations: each zone as the list of its robots, and no move is made.
 //
 //     lists   lists of robots in lent bytes
+//     zone    a zone judged by its list
 pub mod lists;
+pub mod zone;
