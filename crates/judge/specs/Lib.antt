@@ -1,5 +1,6 @@
 -- Judging on configurations.
 pub mod Lists
+pub mod Zone
 pub mod Held
 pub mod Steps
 pub mod Making

@@ -254,3 +254,9 @@ module _ (f : List ℕ) (o e : ℕ) (kind first size listed zone place counts ce
         pub marching-long : length cells₂ ≡ length listed
         marching-long = step-room (mr .map) (mr .n) (mr .k) kind first size listed zone place (mr .rows) (mr .given) (mr .state) (mr .consistent) counts cells (mr .room) (mr .many) (mr .held) r u v behind list taken
             cells₁ counts₁ cells₂ counts₂ change₁ count₁ change₂ count₂
+
+-- the lists after a step that passed stand for the state after it
+pub record Marched (f : List ℕ) (o e : ℕ) (kind first size listed zone place counts cells : List ℕ) (x : Marching f o e kind first size listed zone place counts cells) (counts′ new : List ℕ) : Type 0 where
+  pub held : Held (x .map) first counts′ new (marched f o e kind first size listed zone place counts cells x)
+  pub many : length counts′ ≡ 64
+  pub room : length new ≡ length listed

@@ -1,4 +1,8 @@
 // Judging on configurations: each zone as the list of its robots, and no move is made.
 //
 //     lists   lists of robots in lent bytes
+//     zone    a zone judged by its list
+//     walk    a plan's steps walked on the lists
 pub mod lists;
+pub mod walk;
+pub mod zone;
