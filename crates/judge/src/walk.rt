@@ -17,6 +17,7 @@ ghost use Rattle.resolve.specs.Given.{Given, kindAt};
 ghost use Rattle.judge.specs.Lists.{Rewritten};
 ghost use Rattle.judge.specs.Held.{listIn, Held};
 ghost use Rattle.judge.specs.Steps.{Ready, HasList, Fits, extraOn};
+ghost use Rattle.judge.specs.Making.{TakesOut, Listed};
 use hall::goals::index_of;
 use resolve::PlanFault;
 use resolve::StepTest;
@@ -190,7 +191,40 @@ pub fn test_step<'a>(
         return StepTest::Leave;
     }
     test_entry_at(
-        file, len, o, kind, first, size, zone, place, cells, counts, r, v, behind,
+        file,
+        len,
+        o,
+        kind,
+        first,
+        size,
+        zone,
+        place,
+        cells,
+        counts,
+        r,
+        v,
+        behind,
     )
 }
 
+// Takes robot r out of the list of vertex u's zone.
+fn take_out<'a>(
+    first: &'a [u8; 64],
+    size: &'a [u8; 64],
+    zone: &'a [u8; 128],
+    place: &'a [u8; 128],
+    cells: &mut [u8],
+    counts: &mut [u8; 64],
+    r: u8,
+    u: u8,
+)
+    requires { ⌜ TakesOut (now first) (now size) (now zone) (now place) (now counts) (now cells) r u ⌝ }
+    ensures { λ q. ⌜ Listed (now (first .entry)) (now (size .entry)) (now (counts .entry)) (now (cells .entry)) (getD (now (zone .entry)) u 0) (without (indexOf r (listIn (now (first .entry)) (now (counts .entry)) (now (cells .entry)) (getD (now (zone .entry)) u 0))) (listIn (now (first .entry)) (now (counts .entry)) (now (cells .entry)) (getD (now (zone .entry)) u 0))) (now (counts .exit)) (now (cells .exit)) ⌝ }
+{
+    let z = zone[u as usize] as usize;
+    let a = first[z] as usize;
+    let n = counts[z] as usize;
+    let t = index_of(&cells[a..], n, r);
+    crate::lists::remove(&mut cells[a..], n, t);
+    counts[z] = (n - 1) as u8;
+}
