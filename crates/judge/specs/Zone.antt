@@ -1,23 +1,26 @@
 -- A zone judged by the list of its robots: one law for each way through the code.
-use mathlib.Core.Path.{_≡_, sym, ap, ap₂, _∙_}
+use mathlib.Core.Path.{_≡_, refl, sym, ap, ap₂, _∙_}
 use mathlib.Core.Bool.{Bool, true, false}
-use mathlib.Core.List.{List, [], _∷_}
+use mathlib.Core.List.{List, [], _∷_, _++_}
 use Prim.Native.Nat.{ℕ, zero, suc, _+_, _-_, _≤_, _<_}
 use native.Mathlib.Omega.{arith}
 use native.Mathlib.Decide.{ℕ-discrete}
 use native.Mathlib.Numerals.{add-one}
-use lib.ListN.{length, getD, take}
-use lib.Seq.{slice, slice-cons, slice-empty}
+use lib.ListN.{length, getD, take, drop, length-append, length-drop, drop-of-length-le}
+use lib.Seq.{length-take-le, getD-take, getD-drop, getD-append-add, take-at, take-all, slice, slice-cons, slice-empty}
 use lib.Dec.{eqb, ltb}
 use borrow.Author.Tests.{eq-eqb, ne-eqb, lt-ltb, le-ltb}
-use Rattle.spec.specs.Outcome.{_&&_, all, member, indexOf}
+use Rattle.spec.specs.Outcome.{_&&_, all, member, indexOf, sameList}
 use Rattle.spec.specs.Hall.{room}
+use Rattle.spec.specs.Ring.{wrap, turned}
+use Rattle.theory.specs.Basics.Searches.{index-le}
 use Rattle.theory.specs.Zones.Hall.Order.{IsHall}
 use Rattle.theory.specs.Zones.Kinds.{as-hall}
 use Rattle.hall.specs.Reach.{member-index}
-use Rattle.orders.specs.Orders.{without, entryIn, pinned, hallLeaves, leaveTest, sameMembers, listMet, cliqueEnters, ringEnters, hallEnters, enterTest}
-use Rattle.orders.specs.Lengths.{without-length}
-use Rattle.judge.specs.Lists.{Rewritten}
+use Rattle.orders.specs.Orders.{without, putIn, entryIn, turnedBy, ringEntered, cliqueEntered, entered}
+use Rattle.orders.specs.Orders.{pinned, hallLeaves, leaveTest, sameMembers, listMet, cliqueEnters, ringEnters, hallEnters, enterTest, endTest}
+use Rattle.orders.specs.Lengths.{without-length, put-length}
+use Rattle.judge.specs.Lists.{Rewritten, turnedBy-length, stored-whole}
 
 -- what the search for a leaver, robot r of the n robots l, finds: its index where the test lets it out, n or more where not
 pub record LeaveFound (test : Bool) (r n : ℕ) (l : List ℕ) (q : ℕ) : Type 0 where
@@ -25,10 +28,18 @@ pub record LeaveFound (test : Bool) (r n : ℕ) (l : List ℕ) (q : ℕ) : Type 
   pub index : q < n → q ≡ indexOf r l
   pub unmet : n ≤ q → test ≡ false
 
+-- are the goals, whose robots in order are o, in the configuration of a clique of n places
+unfoldable pub cliqueEnds : ℕ → List ℕ → List ℕ → Bool
+cliqueEnds n l o = elim (eqb (length l) n) [ true ↦ sameList l o | false ↦ sameMembers l o ]
+
+-- in that of a ring
+unfoldable pub ringEnds : ℕ → List ℕ → List ℕ → Bool
+ringEnds n l o = elim (eqb (length l) n) [ true ↦ sameList l o | false ↦ turned l o ]
+
 -- ---- by kind
 
 module _ (kind : ℕ) (e : kind ≡ 3) where
-  -- a clique's tests
+  -- a clique
   pub clique-leaves : (n : ℕ) (l : List ℕ) (r j : ℕ) → pinned n l r j ≡ leaveTest kind n l r j
   unfolding leaveTest
   clique-leaves n l r j = rw e
@@ -37,8 +48,16 @@ module _ (kind : ℕ) (e : kind ≡ 3) where
   unfolding enterTest
   clique-enters n l r j behind list = rw e
 
+  pub clique-entered : (n : ℕ) (l : List ℕ) (r j behind : ℕ) (list : List ℕ) → cliqueEntered n l r list ≡ entered kind n l r j behind list
+  unfolding entered
+  clique-entered n l r j behind list = rw e
+
+  pub clique-ends : (n : ℕ) (l o : List ℕ) → cliqueEnds n l o ≡ endTest kind n l o
+  unfolding endTest cliqueEnds
+  clique-ends n l o = rw e
+
 module _ (kind : ℕ) (e : kind ≡ 4) where
-  -- a ring's tests
+  -- a ring
   pub ring-leaves : (n : ℕ) (l : List ℕ) (r j : ℕ) → pinned n l r j ≡ leaveTest kind n l r j
   unfolding leaveTest
   ring-leaves n l r j = rw e
@@ -47,8 +66,16 @@ module _ (kind : ℕ) (e : kind ≡ 4) where
   unfolding enterTest
   ring-enters n l r j behind list = rw e
 
+  pub ring-entered : (n : ℕ) (l : List ℕ) (r j behind : ℕ) (list : List ℕ) → ringEntered n l r j behind ≡ entered kind n l r j behind list
+  unfolding entered
+  ring-entered n l r j behind list = rw e
+
+  pub ring-ends : (n : ℕ) (l o : List ℕ) → ringEnds n l o ≡ endTest kind n l o
+  unfolding endTest ringEnds
+  ring-ends n l o = rw e
+
 module _ (kind : ℕ) (i : IsHall kind) where
-  -- a hall's tests
+  -- a hall
   pub hall-leaves : (n : ℕ) (l : List ℕ) (r j : ℕ) → hallLeaves n l r j ≡ leaveTest kind n l r j
   unfolding leaveTest
   hall-leaves n l r j = sym (as-hall i (pinned n l r j) (pinned n l r j) (hallLeaves n l r j))
@@ -56,6 +83,14 @@ module _ (kind : ℕ) (i : IsHall kind) where
   pub hall-enters : (n : ℕ) (l : List ℕ) (r j behind : ℕ) (list : List ℕ) → hallEnters n l j behind ≡ enterTest kind n l r j behind list
   unfolding enterTest
   hall-enters n l r j behind list = sym (as-hall i (cliqueEnters n l r j behind list) (ringEnters l behind) (hallEnters n l j behind))
+
+  pub hall-entered : (n : ℕ) (l : List ℕ) (r j behind : ℕ) (list : List ℕ) → putIn (entryIn behind l) r l ≡ entered kind n l r j behind list
+  unfolding entered
+  hall-entered n l r j behind list = sym (as-hall i (cliqueEntered n l r list) (ringEntered n l r j behind) (putIn (entryIn behind l) r l))
+
+  pub hall-ends : (n : ℕ) (l o : List ℕ) → sameList l o ≡ endTest kind n l o
+  unfolding endTest cliqueEnds ringEnds
+  hall-ends n l o = sym (as-hall i (cliqueEnds n l o) (ringEnds n l o) (sameList l o))
 
 -- the leaver found by a test is found by an equal one
 pub found-as : (x y : Bool) (r n : ℕ) (l : List ℕ) (q : ℕ) → x ≡ y → LeaveFound x r n l q → LeaveFound y r n l q
@@ -229,3 +264,155 @@ module _ (l : List ℕ) (r j : ℕ) (list : List ℕ) where
   pub clique-free : (n behind : ℕ) → behind ≡ 255 → (length l + 1 ≡ n → ⊥) → true ≡ cliqueEnters n l r j behind list
   unfolding cliqueEnters _&&_
   clique-free n behind h e = sym (rw (eq-eqb _ _ h, cliqueEnters, _&&_, ne-eqb (suc (length l)) n (λ z. e (omega arith))))
+
+-- ---- the list after an entry
+
+-- what is put first among n is put first among more
+pub wider : (p : List ℕ) (n m : ℕ) (l q : List ℕ) → n ≤ m → Rewritten p n l q → Rewritten p m l q
+wider p n m l q h w = record { long = w .long; here = w .here; past = λ k b. w .past k (omega arith) }
+
+-- what is put first is an equal list
+pub put-as : (p : List ℕ) (n : ℕ) (l o q : List ℕ) → l ≡ o → Rewritten p n l q → Rewritten p n o q
+put-as p n l o q e w = rw e at w
+
+-- a robot put in past the end is put in last
+pub put-last : (t r : ℕ) (l : List ℕ) (n : ℕ) → length l ≡ n → n ≤ t → putIn n r l ≡ putIn t r l
+unfolding putIn
+put-last t r l n e h =
+    ap₂ (λ (x y : List ℕ). x ++ (r ∷ y)) (take-all n l (omega arith) ∙ sym (take-all t l (omega arith))) (drop-of-length-le l {i = n} (omega arith) ∙ sym (drop-of-length-le l {i = t} (omega arith)))
+
+-- turning by the whole length changes nothing
+turned-all : (n : ℕ) (l : List ℕ) → length l ≡ n → turnedBy n l ≡ l
+unfolding turnedBy
+turned-all n l e = ap₂ (λ (x y : List ℕ). x ++ y) (drop-of-length-le l {i = n} (omega arith)) (take-all n l (omega arith))
+
+pub turn-none : (p : List ℕ) (n q : ℕ) → n ≤ length p → q ≡ n → Rewritten p n (turnedBy q (take n p)) p
+turn-none p n q h e =
+    let long : length (take n p) ≡ n = length-take-le n p h in
+    let same : take n p ≡ turnedBy q (take n p) = sym (turned-all n (take n p) long) ∙ ap (λ (k : ℕ). turnedBy k (take n p)) (sym e) in
+    put-as p n (take n p) (turnedBy q (take n p)) p same (record { long = refl; here = ap (λ (k : ℕ). take k p) long; past = λ k b. refl })
+
+-- the first n turned, and the rest behind them
+pub turn-some : (p x : List ℕ) (n q : ℕ) → n ≤ length p → q < n → x ≡ turnedBy q (take n p) → Rewritten p n (turnedBy q (take n p)) (x ++ drop n p)
+turn-some p x n q h b e = put-as p n x (turnedBy q (take n p)) (x ++ drop n p) e (record {
+  long = omega (arith, length-append x (drop n p), length-drop n p, long);
+  here = take-at x (drop n p) (length x) refl;
+  past = λ k d. behind k d;
+})
+  where
+    long : length x ≡ n
+    long = ap length e ∙ turnedBy-length q (take n p) (omega (arith, length-take-le n p h)) ∙ length-take-le n p h
+
+    behind : (k : ℕ) → n ≤ k → getD (x ++ drop n p) k 0 ≡ getD p k 0
+    behind k d =
+        let at : k ≡ length x + (k - n) = omega (arith, long) in
+        let back : n + (k - n) ≡ k = omega arith in
+        ap (λ (i : ℕ). getD (x ++ drop n p) i 0) at ∙ getD-append-add x (drop n p) (k - n) 0 ∙ getD-drop n p (k - n) 0 ∙ ap (λ (i : ℕ). getD p i 0) back
+
+-- where a robot comes in: first, or after the named one; at most one past the end
+pub entry-first : (behind : ℕ) (l : List ℕ) → behind ≡ 255 → 0 ≡ entryIn behind l
+unfolding entryIn
+entry-first behind l h = sym (rw (eq-eqb _ _ h, entryIn))
+
+pub entry-after : (behind t : ℕ) (l : List ℕ) → (behind ≡ 255 → ⊥) → t ≡ indexOf behind l → t + 1 ≡ entryIn behind l
+unfolding entryIn
+entry-after behind t l h i = sym (rw (ne-eqb _ _ h, entryIn) (omega arith))
+
+pub entry-most : (behind : ℕ) (l : List ℕ) → entryIn behind l ≤ length l + 1
+entry-most behind l = at (ℕ-discrete behind 255)
+  where
+    at : Dec (behind ≡ 255) → entryIn behind l ≤ length l + 1
+    at (yes h) = omega (arith, entry-first behind l h)
+    at (no h) = omega (arith, entry-after behind (indexOf behind l) l h refl, index-le behind l)
+
+-- how far a filled ring is turned: past its end, or not
+pub turn-past : (n t j : ℕ) → j < n → t < j → n + t - j ≡ wrap n (n + t - j)
+unfolding wrap
+turn-past n t j h b = sym (rw (lt-ltb (n + t - j) n (omega arith), wrap))
+
+pub turn-within : (n t j : ℕ) → j < n → j ≤ t → t - j ≡ wrap n (n + t - j)
+unfolding wrap
+turn-within n t j h b = sym (rw (le-ltb (n + t - j) n (omega arith), wrap) (omega arith))
+
+module _ (l : List ℕ) (n r : ℕ) where
+  -- a ring that is not filled
+  pub ring-free : (j behind t : ℕ) → (suc (length l) ≡ n → ⊥) → t ≡ entryIn behind l → putIn t r l ≡ ringEntered n l r j behind
+  unfolding ringEntered
+  ring-free j behind t h i = sym (rw (ne-eqb (suc (length l)) n h, ringEntered, i))
+
+  -- one that is filled
+  ring-full : (j behind t q : ℕ) → suc (length l) ≡ n → t ≡ entryIn behind l → q ≡ wrap n (n + t - j) → turnedBy q (putIn t r l) ≡ ringEntered n l r j behind
+  unfolding ringEntered
+  ring-full j behind t q h i w =
+      sym (rw (eq-eqb (suc (length l)) n h, ringEntered) (ap₂ (λ (x y : ℕ). turnedBy x (putIn y r l)) (ap (λ (k : ℕ). wrap n (n + k - j)) (sym i) ∙ sym w) (sym i)))
+
+  -- a clique that is filled, and one that is not
+  pub clique-full : (list : List ℕ) → suc (length l) ≡ n → list ≡ cliqueEntered n l r list
+  unfolding cliqueEntered
+  clique-full list h = sym (rw (eq-eqb (suc (length l)) n h, cliqueEntered))
+
+  pub clique-more : (list : List ℕ) → (suc (length l) ≡ n → ⊥) → putIn (length l) r l ≡ cliqueEntered n l r list
+  unfolding cliqueEntered
+  clique-more list h = sym (rw (ne-eqb (suc (length l)) n h, cliqueEntered))
+
+-- a robot put in, then the first turned: the list of a filled ring
+pub ring-filled : (p s o : List ℕ) (n size r j behind t q : ℕ) → size ≤ length p → n + 1 ≡ size → t ≡ entryIn behind (take n p) → q ≡ wrap size (size + t - j)
+    → Rewritten p (n + 1) (putIn t r (take n p)) s → Rewritten s size (turnedBy q (take size s)) o → Rewritten p size (ringEntered size (take n p) r j behind) o
+ring-filled p s o n size r j behind t q h e i w a b = put-as p size (turnedBy q (putIn t r (take n p))) (ringEntered size (take n p) r j behind) o list both
+  where
+    long : length (take n p) ≡ n
+    long = length-take-le n p (omega arith)
+
+    list : turnedBy q (putIn t r (take n p)) ≡ ringEntered size (take n p) r j behind
+    list = ring-full (take n p) size r j behind t q (omega (arith, long)) i w
+
+    stored : take size s ≡ putIn t r (take n p)
+    stored = let m : size ≡ length (putIn t r (take n p)) = omega (arith, put-length t r (take n p), long) in ap (λ (k : ℕ). take k s) m ∙ a .here
+
+    second : Rewritten s size (turnedBy q (putIn t r (take n p))) o
+    second = put-as s size (turnedBy q (take size s)) (turnedBy q (putIn t r (take n p))) o (ap (turnedBy q) stored) b
+
+    both : Rewritten p size (turnedBy q (putIn t r (take n p))) o
+    both = record { long = second .long ∙ a .long; here = second .here; past = λ k d. second .past k d ∙ a .past k (omega arith) }
+
+-- ---- ending
+
+module _ (n : ℕ) (l o : List ℕ) where
+  -- a full zone, and one that is not
+  pub clique-whole : length l ≡ n → sameList l o ≡ cliqueEnds n l o
+  unfolding cliqueEnds
+  clique-whole h = sym (rw (eq-eqb _ _ h, cliqueEnds))
+
+  pub clique-part : (length l ≡ n → ⊥) → sameMembers l o ≡ cliqueEnds n l o
+  unfolding cliqueEnds
+  clique-part h = sym (rw (ne-eqb _ _ h, cliqueEnds))
+
+  pub ring-whole : length l ≡ n → sameList l o ≡ ringEnds n l o
+  unfolding ringEnds
+  ring-whole h = sym (rw (eq-eqb _ _ h, ringEnds))
+
+  pub ring-part : (length l ≡ n → ⊥) → turned l o ≡ ringEnds n l o
+  unfolding ringEnds
+  ring-part h = sym (rw (ne-eqb _ _ h, ringEnds))
+
+-- none is only none, turned
+pub turned-empty : (l o : List ℕ) → length l ≡ 0 → eqb (length o) 0 ≡ turned l o
+unfolding turned sameList
+turned-empty [] [] h = refl
+turned-empty [] (x ∷ o) h = ne-eqb (suc (length o)) 0 (λ e. omega arith)
+turned-empty (x ∷ l) o h = absurd (omega arith)
+
+-- robots are compared with the goals read from the first of them on
+turned-first : (l o : List ℕ) → 0 < length l → sameList l (turnedBy (indexOf (getD l 0 0) o) o) ≡ turned l o
+unfolding turned turnedBy
+turned-first [] o h = absurd (omega arith)
+turned-first (x ∷ l) o h = refl
+
+pub turned-goals : (p g o : List ℕ) (n t : ℕ) → 0 < n → n ≤ length p → t ≡ indexOf (getD p 0 0) (take (length g) g) → Rewritten g (length g) (turnedBy t (take (length g) g)) o
+    → sameList (take n p) o ≡ turned (take n p) g
+turned-goals p g o n t z h i w =
+    let all : take (length g) g ≡ g = take-all (length g) g (omega arith) in
+    let at : t ≡ indexOf (getD (take n p) 0 0) g = i ∙ ap₂ indexOf (sym (getD-take n p 0 0 z)) all in
+    let long : length (turnedBy t g) ≡ length g = turnedBy-length t g (omega (arith, at, index-le (getD (take n p) 0 0) g)) in
+    let v : Rewritten g (length (turnedBy t g)) (turnedBy t g) o = wider g (length g) _ _ o (omega (arith, long)) (put-as g (length g) _ _ o (ap (turnedBy t) all) w) in
+    ap (sameList (take n p)) (stored-whole g (turnedBy t g) o long v ∙ ap (λ (k : ℕ). turnedBy k g) at) ∙ turned-first (take n p) g (omega (arith, length-take-le n p h))

@@ -1,12 +1,18 @@
 // A zone judged by the list of its robots, the first n of a part: who can leave and enter, and what the list is afterwards.
 ghost use mathlib.Core.Path.{_≡_};
-ghost use Prim.Native.Nat.{suc, _+_, _≤_, _<_};
+ghost use Prim.Native.Nat.{suc, _+_, _-_, _≤_, _<_};
 ghost use lib.ListN.{length, take};
 ghost use Rattle.spec.specs.Outcome.{all, member};
-ghost use Rattle.orders.specs.Orders.{pinned, hallLeaves, leaveTest, sameMembers, listMet, cliqueEnters, ringEnters, hallEnters, enterTest};
-ghost use Rattle.judge.specs.Zone.{LeaveFound};
+ghost use Rattle.spec.specs.Ring.{wrap, turned};
+ghost use Rattle.orders.specs.Orders.{putIn, entryIn, turnedBy, ringEntered, cliqueEntered, entered};
+ghost use Rattle.orders.specs.Orders.{pinned, hallLeaves, leaveTest, sameMembers, listMet, cliqueEnters, ringEnters, hallEnters, enterTest, endTest};
+ghost use Rattle.judge.specs.Lists.{Rewritten};
+ghost use Rattle.judge.specs.Zone.{LeaveFound, ringEnds, cliqueEnds};
+use crate::lists::insert;
 use crate::lists::remove;
 use crate::lists::store;
+use crate::lists::turn;
+use clique::comparing::same_cells;
 use hall::goals::index_of;
 use hall::reach::has_room;
 
@@ -172,5 +178,155 @@ pub fn can_enter(
         3 => clique_enters(part, n, size, r, j, behind, list),
         4 => ring_enters(part, n, behind),
         _ => hall_enters(part, n, size, j, behind),
+    }
+}
+
+// Where a robot comes in that has the named one behind it.
+fn entry_index(part: &[u8], n: usize, behind: u8) -> usize
+    requires { ⌜ n ≤ length (now part) ⌝ }
+    ensures { λ t. ⌜ t ≡ entryIn behind (take n (now (part .entry))) ⌝ }
+{
+    if behind == 255 {
+        return 0;
+    }
+    index_of(part, n, behind) + 1
+}
+
+// Puts robot r before the one at index t of the first n; last where t is past them.
+fn put_in(part: &mut [u8], n: usize, t: usize, r: u8)
+    requires { ⌜ n < length (now part) ⌝ }
+    ensures { λ q. ⌜ Rewritten (now (part .entry)) (n + 1) (putIn t r (take n (now (part .entry)))) (now (part .exit)) ⌝ }
+{
+    if t < n {
+        insert(part, n, t, r);
+    } else {
+        insert(part, n, n, r);
+    }
+}
+
+// Turns the first n so that the one at index q comes first; none has to go where q is n.
+fn turn_first(part: &mut [u8], n: usize, q: usize)
+    requires { ⌜ (q ≤ n) × (n ≤ length (now part)) × (n ≤ 128) ⌝ }
+    ensures { λ u. ⌜ Rewritten (now (part .entry)) n (turnedBy q (take n (now (part .entry)))) (now (part .exit)) ⌝ }
+{
+    if n <= q {
+        return;
+    }
+    turn(&mut part[..n], q);
+}
+
+// How far a filled ring of n places is turned, where the robot at index t is to come to place j.
+fn turn_count(n: usize, t: usize, j: usize) -> usize
+    requires { ⌜ (n ≤ 128) × (t ≤ n) × (j < n) ⌝ }
+    ensures { λ q. ⌜ (q ≡ wrap n (n + t - j)) × (q ≤ n) ⌝ }
+{
+    if t < j {
+        return n + t - j;
+    }
+    t - j
+}
+
+// A robot enters a hall.
+fn hall_enter(part: &mut [u8], n: usize, size: usize, r: u8, behind: u8)
+    requires { ⌜ (n < size) × (size ≤ length (now part)) ⌝ }
+    ensures { λ q. ⌜ Rewritten (now (part .entry)) size (putIn (entryIn behind (take n (now (part .entry)))) r (take n (now (part .entry)))) (now (part .exit)) ⌝ }
+{
+    let t = entry_index(part, n, behind);
+    put_in(part, n, t, r);
+}
+
+// A robot enters a ring at place j; where that fills the ring, it is turned so that the robot stands there.
+fn ring_enter(part: &mut [u8], n: usize, size: usize, r: u8, j: usize, behind: u8)
+    requires { ⌜ (n < size) × (size ≤ length (now part)) × (size ≤ 128) × (j < size) ⌝ }
+    ensures { λ q. ⌜ Rewritten (now (part .entry)) size (ringEntered size (take n (now (part .entry))) r j behind) (now (part .exit)) ⌝ }
+{
+    let t = entry_index(part, n, behind);
+    put_in(part, n, t, r);
+    if n + 1 != size {
+        return;
+    }
+    let q = turn_count(size, t, j);
+    turn_first(part, size, q);
+}
+
+// A robot enters a clique; where that fills the clique, all stand as the follow list says.
+fn clique_enter(part: &mut [u8], n: usize, size: usize, r: u8, list: &[u8])
+    requires { ⌜ (n < size) × (size ≤ length (now part)) × (suc n ≡ size → length (now list) ≡ size) ⌝ }
+    ensures { λ q. ⌜ Rewritten (now (part .entry)) size (cliqueEntered size (take n (now (part .entry))) r (now (list .entry))) (now (part .exit)) ⌝ }
+{
+    if n + 1 == size {
+        store(part, list);
+    } else {
+        insert(part, n, n, r);
+    }
+}
+
+// Robot r enters a zone that is not full, at place j: the list is the one of the configuration after the step.
+pub fn enter(
+    kind: u8,
+    part: &mut [u8],
+    n: usize,
+    size: usize,
+    r: u8,
+    j: usize,
+    behind: u8,
+    list: &[u8],
+)
+    requires { ⌜ (n < size) × (size ≤ length (now part)) × (size ≤ 128) × (j < size) × (kind ≡ 3 → suc n ≡ size → length (now list) ≡ size) ⌝ }
+    ensures { λ q. ⌜ Rewritten (now (part .entry)) size (entered kind size (take n (now (part .entry))) r j behind (now (list .entry))) (now (part .exit)) ⌝ }
+{
+    match kind {
+        3 => clique_enter(part, n, size, r, list),
+        4 => ring_enter(part, n, size, r, j, behind),
+        _ => hall_enter(part, n, size, r, behind),
+    }
+}
+
+// Are the goals' robots those of a ring, turned? The goals are turned in their bytes.
+fn ring_turned(part: &[u8], n: usize, goal: &mut [u8]) -> bool
+    requires { ⌜ (0 < n) × (n ≤ length (now part)) × (length (now goal) ≤ 128) ⌝ }
+    ensures { λ b. ⌜ b ≡ turned (take n (now (part .entry))) (now (goal .entry)) ⌝ }
+{
+    let m = goal.len();
+    let r = part[0];
+    let t = index_of(goal, m, r);
+    turn_first(goal, m, t);
+    same_cells(&part[..n], goal)
+}
+
+// Are the goals in the configuration of a ring?
+fn ring_ends(part: &[u8], n: usize, size: usize, goal: &mut [u8]) -> bool
+    requires { ⌜ (n ≤ length (now part)) × (length (now goal) ≤ 128) ⌝ }
+    ensures { λ b. ⌜ b ≡ ringEnds size (take n (now (part .entry))) (now (goal .entry)) ⌝ }
+{
+    if n == size {
+        return same_cells(&part[..n], goal);
+    }
+    if n == 0 {
+        return goal.len() == 0;
+    }
+    ring_turned(part, n, goal)
+}
+
+// Are the goals in the configuration of a clique?
+fn clique_ends(part: &[u8], n: usize, size: usize, goal: &[u8]) -> bool
+    requires { ⌜ n ≤ length (now part) ⌝ }
+    ensures { λ b. ⌜ b ≡ cliqueEnds size (take n (now (part .entry))) (now (goal .entry)) ⌝ }
+{
+    if n == size {
+        return same_cells(&part[..n], goal);
+    }
+    same_members(part, n, goal, goal.len())
+}
+
+// Are the goals, whose robots in order are `goal`, in the configuration? A ring's are turned in their bytes.
+pub fn can_end(kind: u8, part: &[u8], n: usize, size: usize, goal: &mut [u8]) -> bool
+    requires { ⌜ (n ≤ size) × (size ≤ length (now part)) × (length (now goal) ≤ 128) ⌝ }
+    ensures { λ b. ⌜ b ≡ endTest kind size (take n (now (part .entry))) (now (goal .entry)) ⌝ }
+{
+    match kind {
+        3 => clique_ends(part, n, size, goal),
+        4 => ring_ends(part, n, size, goal),
+        _ => same_cells(&part[..n], goal),
     }
 }
