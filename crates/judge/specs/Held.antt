@@ -1,12 +1,13 @@
 -- The lists of all zones in one row of bytes: zone z's stands from first[z] on and has counts[z] robots.
-use mathlib.Core.Path.{_≡_, refl, sym, ap, _∙_}
+use mathlib.Core.Path.{_≡_, refl, sym, ap, subst, _∙_}
 use mathlib.Core.Logic.{_≢_, _⊎_, inl, inr}
-use mathlib.Core.List.{List, [], _∷_, _++_}
+use mathlib.Core.List.{List, [], _∷_, _++_, append-nil}
+use borrow.Rule.Slice.PartMut.{putMid, post-is}
 use Prim.Native.Nat.{ℕ, zero, suc, _+_, _-_, _≤_, _<_}
 use native.Mathlib.Omega.{arith}
 use native.Mathlib.Decide.{ℕ-discrete, decLt, decLe}
 use lib.ListN.{length, getD, set, take, drop, length-append, length-set, length-drop, List·getD-append}
-use lib.Seq.{length-take-le, getD-take, getD-drop, getD-set-same, getD-set-other, ext-getD, getD-append-add, drop-append-seam}
+use lib.Seq.{length-take-le, getD-take, getD-drop, getD-set-same, getD-set-other, ext-getD, getD-append-add, drop-append-seam, take-all, drop-length}
 use Rattle.spec.specs.Layout.{Map, zoneOf, zoneAt}
 use Rattle.spec.specs.State.{State, movedAll}
 use Rattle.spec.specs.Outcome.{indexOf}
@@ -57,6 +58,22 @@ changed-part cells a n l part new h e w =
   where
     rest : length (take a cells) ≡ a → drop a (take a cells ++ part) ≡ part
     rest q = lib.Seq.drop-at (take a cells) part a q
+
+-- the rest of a row from element a on, as the code takes it
+pub rest-is : (a : ℕ) (cells : List ℕ) → take (length cells - a) (drop a cells) ≡ drop a cells
+rest-is a cells = take-all (length cells - a) (drop a cells) (omega (arith, length-drop a cells))
+
+-- its length
+pub rest-length : (a : ℕ) (cells : List ℕ) → length (take (length cells - a) (drop a cells)) ≡ length cells - a
+rest-length a cells = ap length (rest-is a cells) ∙ length-drop a cells
+
+-- by the rest of the row that was lent; f is what becomes of it
+pub changed-rest : (cells : List ℕ) (a n : ℕ) (f : List ℕ → List ℕ) (part : List ℕ) → a ≤ length cells → Rewritten (take (length cells - a) (drop a cells)) n (f (take (length cells - a) (drop a cells))) part
+    → Changed cells a n (f (drop a cells)) (putMid a (length cells - a) cells part)
+changed-rest cells a n f part h w =
+    changed-part cells a n (f (drop a cells)) part (putMid a (length cells - a) cells part) h
+    (ap (λ (t : List ℕ). take a cells ++ t) (ap (λ (t : List ℕ). part ++ t) (post-is a (length cells) cells h ∙ drop-length cells) ∙ append-nil part))
+    (subst (λ (x : List ℕ). Rewritten x n (f x) part) (rest-is a cells) w)
 
 -- elements that are all the same are the same part
 same-part : (xs ys : List ℕ) (f c : ℕ) → length ys ≡ length xs → f + c ≤ length xs → ((k : ℕ) → f ≤ k → k < f + c → getD ys k 0 ≡ getD xs k 0) → take c (drop f ys) ≡ take c (drop f xs)

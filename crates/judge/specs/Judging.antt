@@ -34,7 +34,7 @@ use Rattle.resolve.specs.Walk.{Walking, WalkOf, walk-start, walk-end}
 use Rattle.resolve.specs.Steps.{refusalOf, walking-passes, walking-next, walking-stop, walking-offset}
 use Rattle.resolve.specs.Whole.{fresh, ResolvedTo, FinishOf, resolved-none, resolved-refused, resolved-surplus, resolved-finish}
 use Rattle.judge.specs.Held.{listIn, Held, size-is}
-use Rattle.judge.specs.Making.{Marching, marched}
+use Rattle.judge.specs.Making.{Marching, Marched}
 
 -- how far a walk of n steps from the state s₀ has come on the lists
 pub record Judging (m : Map) (k : ℕ) (p : List ℕ) (n : ℕ) (s₀ : State) (i o : ℕ) (first counts cells : List ℕ) : Type 0 where
@@ -88,14 +88,15 @@ module _ (m : Map) (n k : ℕ) (kind first size listed zone place : List ℕ) (r
       }
 
       -- its robot has crossed
-      pub judging-next : (e : ℕ) → t ≡ step.Passed e → i < count → (counts′ new : List ℕ) → Held m first counts′ new (movedAll (j .world .state) (stepMoves m (take len (payload f)) o e (j .world .state)))
+      pub judging-next : (e : ℕ) (q : t ≡ step.Passed e) → i < count → (counts′ new : List ℕ) → Marched f o e kind first size listed zone place counts cells (judging-step e q) counts′ new
           → Judging m k (take len (payload f)) count s₀ (i + 1) (o + 4 + e) first counts′ new
+      unfolding judging-step
       judging-next e q l counts′ new x =
           let ms : List Move = stepMoves m (take len (payload f)) o e (j .world .state) in
           record {
             world = madeAll (j .world) ms;
             walking = walking-next m n k kind first size listed zone place rows d f len most count (fresh s₀ []) i o (j .world) (j .walking) t h e q (madeAll (j .world) ms) l refl;
-            held = rw (state-is (j .world) ms) x;
+            held = rw (state-is (j .world) ms) (x .held);
           }
 
       -- a step that did not pass is refused

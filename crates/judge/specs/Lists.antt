@@ -14,6 +14,10 @@ pub record Rewritten (p : List ℕ) (n : ℕ) (l : List ℕ) (q : List ℕ) : Ty
   pub here : take (length l) q ≡ l
   pub past : (k : ℕ) → n ≤ k → getD q k 0 ≡ getD p k 0
 
+-- what is left further behind is left
+pub wider : {p : List ℕ} {n : ℕ} {l q : List ℕ} (m : ℕ) → n ≤ m → Rewritten p n l q → Rewritten p m l q
+wider m h w = record { long = w .long; here = w .here; past = λ k b. w .past k (omega arith) }
+
 -- ---- appended lists, element by element
 
 -- an element of the first

@@ -4,8 +4,8 @@ use mathlib.Core.Bool.{Bool, true, false, not}
 use mathlib.Core.List.{List}
 use Prim.Native.Nat.{ℕ, zero, suc, _+_, _-_, _*_, _/_, _≤_, _<_}
 use native.Mathlib.Omega.{arith}
-use lib.ListN.{length, getD, set, take, drop, length-drop}
-use lib.Seq.{length-take-le, take-all}
+use lib.ListN.{length, getD, set, take, drop}
+use lib.Seq.{length-take-le}
 use lib.Dec.{T, eqb, ltb}
 use native.Mathlib.Decide.{decLt}
 use Rattle.judge.specs.Zone.{LeaveFound}
@@ -165,10 +165,6 @@ module _ (kind : ℕ) (l : List ℕ) (b : Arrangement) (p : Proper b) (h : Holds
       sym (enter-is kind l b p h r j behind list (rw e x) (rw (not-full q) tt) (y ∙ extra-is) ∙ ap (λ (z : ℕ). enterTest kind z l r j behind list) e)
 
 -- ---- what the code reads
-
--- the rest of a row from element a on, as the code takes it
-pub rest-is : (a : ℕ) (cells : List ℕ) → take (length cells - a) (drop a cells) ≡ drop a cells
-rest-is a cells = take-all (length cells - a) (drop a cells) (omega (arith, length-drop a cells))
 
 -- whether a leaver was found
 pub found-test : (test : Bool) (r n : ℕ) (l : List ℕ) (q : ℕ) → LeaveFound test r n l q → ltb q n ≡ test

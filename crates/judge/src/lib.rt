@@ -6,3 +6,9 @@
 pub mod lists;
 pub mod walk;
 pub mod zone;
+
+// How far a walk on the lists came: why it stopped, and the offset after the steps that passed.
+pub struct JudgedSteps {
+    pub fault: resolve::PlanFault,
+    pub next: usize,
+}

@@ -17,7 +17,9 @@ ghost use Rattle.resolve.specs.Given.{Given, kindAt};
 ghost use Rattle.judge.specs.Lists.{Rewritten};
 ghost use Rattle.judge.specs.Held.{listIn, Held};
 ghost use Rattle.judge.specs.Steps.{Ready, HasList, Fits, extraOn};
-ghost use Rattle.judge.specs.Making.{TakesOut, Listed};
+ghost use Rattle.judge.specs.Making.{Marching, Marched, TakesOut, PutsIn, Listed};
+ghost use Rattle.judge.specs.Judging.{JudgedWalk};
+use crate::JudgedSteps;
 use hall::goals::index_of;
 use resolve::PlanFault;
 use resolve::StepTest;
@@ -227,4 +229,177 @@ fn take_out<'a>(
     let t = index_of(&cells[a..], n, r);
     crate::lists::remove(&mut cells[a..], n, t);
     counts[z] = (n - 1) as u8;
+}
+
+// Puts robot r into a zone's list, with the follow list that is copied into the lent bytes.
+fn enter_in(
+    file: &[u8],
+    from: usize,
+    kind: u8,
+    part: &mut [u8],
+    n: usize,
+    size: usize,
+    r: u8,
+    j: usize,
+    behind: u8,
+    list: &mut [u8],
+)
+    requires { ⌜ (n < size) × (size ≤ length (now part)) × (size ≤ 128) × (j < size) × (length (now list) ≡ extraOn kind size n) × (from + length (now list) ≤ length (now file) / 512 * 504) ⌝ }
+    ensures { λ q. ⌜ Rewritten (now (part .entry)) size (entered kind size (take n (now (part .entry))) r j behind (heldPart (now (file .entry)) (from + length (now (list .entry))) from (length (now (list .entry))))) (now (part .exit)) ⌝ }
+{
+    copy_list(file, from, list);
+    crate::zone::enter(kind, part, n, size, r, j, behind, list);
+}
+
+// Puts robot r into the list of vertex v's zone, by a step whose follow list has e bytes.
+fn put_in<'a>(
+    file: &[u8],
+    from: usize,
+    e: usize,
+    kind: &'a [u8; 64],
+    first: &'a [u8; 64],
+    size: &'a [u8; 64],
+    zone: &'a [u8; 128],
+    place: &'a [u8; 128],
+    cells: &mut [u8],
+    counts: &mut [u8; 64],
+    r: u8,
+    v: u8,
+    behind: u8,
+)
+    requires { ⌜ from + e ≤ length (now file) / 512 * 504 ⌝ }
+    requires { ⌜ PutsIn (now kind) (now first) (now size) (now zone) (now place) (now counts) (now cells) e v ⌝ }
+    ensures { λ q. ⌜ Listed (now (first .entry)) (now (size .entry)) (now (counts .entry)) (now (cells .entry)) (getD (now (zone .entry)) v 0) (entered (kindAt (now (kind .entry)) (now (zone .entry)) v) (getD (now (size .entry)) (getD (now (zone .entry)) v 0) 0) (listIn (now (first .entry)) (now (counts .entry)) (now (cells .entry)) (getD (now (zone .entry)) v 0)) r (getD (now (place .entry)) v 0) behind (heldPart (now (file .entry)) (from + e) from e)) (now (counts .exit)) (now (cells .exit)) ⌝ }
+{
+    let z = zone[v as usize] as usize;
+    let a = first[z] as usize;
+    let n = counts[z] as usize;
+    let m = size[z] as usize;
+    let j = place[v as usize] as usize;
+    let mut list = [0u8; 128];
+    enter_in(
+        file,
+        from,
+        kind[z],
+        &mut cells[a..],
+        n,
+        m,
+        r,
+        j,
+        behind,
+        &mut list[..e],
+    );
+    counts[z] = (n + 1) as u8;
+}
+
+// The step at offset o, which passed its tests, with a follow list of e bytes: its robot crosses.
+fn make_step<'a>(
+    file: &[u8],
+    o: usize,
+    e: usize,
+    kind: &'a [u8; 64],
+    first: &'a [u8; 64],
+    size: &'a [u8; 64],
+    listed: &'a [u8],
+    zone: &'a [u8; 128],
+    place: &'a [u8; 128],
+    cells: &mut [u8],
+    counts: &mut [u8; 64],
+)
+    requires { ⌜ Marching (now file) o e (now kind) (now first) (now size) (now listed) (now zone) (now place) (now counts) (now cells) ⌝ }
+    ensures { λ q. ⌜ ((x : Marching (now (file .entry)) o e (now (kind .entry)) (now (first .entry)) (now (size .entry)) (now (listed .entry)) (now (zone .entry)) (now (place .entry)) (now (counts .entry)) (now (cells .entry))) → Marched (now (file .entry)) o e (now (kind .entry)) (now (first .entry)) (now (size .entry)) (now (listed .entry)) (now (zone .entry)) (now (place .entry)) (now (counts .entry)) (now (cells .entry)) x (now (counts .exit)) (now (cells .exit))) ⌝ }
+{
+    let r = wire::payload_byte(file, o);
+    let u = wire::payload_byte(file, o + 1);
+    let v = wire::payload_byte(file, o + 2);
+    let behind = wire::payload_byte(file, o + 3);
+    take_out(first, size, zone, place, cells, counts, r, u);
+    put_in(
+        file,
+        o + 4,
+        e,
+        kind,
+        first,
+        size,
+        zone,
+        place,
+        cells,
+        counts,
+        r,
+        v,
+        behind,
+    );
+}
+
+// Walks `count` steps of the payload, of `len` bytes, that stands in a checked file, as long as they pass.
+pub fn walk<'a>(
+    file: &[u8],
+    len: usize,
+    count: usize,
+    kind: &'a [u8; 64],
+    first: &'a [u8; 64],
+    size: &'a [u8; 64],
+    listed: &'a [u8],
+    zone: &'a [u8; 128],
+    place: &'a [u8; 128],
+    rows: &[[u64; 2]; 128],
+    n: usize,
+    k: usize,
+    cells: &mut [u8],
+    counts: &mut [u8; 64],
+) -> JudgedSteps
+    requires { ⌜ (len ≤ length (now file) / 512 * 504) × (2 ≤ len) × (count < 65536) ⌝ }
+    requires { ⌜ Ready n k (now kind) (now first) (now size) (now listed) (now zone) (now place) (now rows) (now counts) (now cells) ⌝ }
+    ensures { λ q. ⌜ (length (now (cells .exit)) ≡ length (now (listed .entry))) × (length (now (counts .exit)) ≡ 64) × ((m : Map) → Given m n k (now (kind .entry)) (now (first .entry)) (now (size .entry)) (now (listed .entry)) (now (zone .entry)) (now (place .entry)) (now (rows .entry)) → (s : State) → Consistent m k s → Held m (now (first .entry)) (now (counts .entry)) (now (cells .entry)) s → JudgedWalk m k (take len (payload (now (file .entry)))) count s (q .fault) (q .next) (now (first .entry)) (now (counts .exit)) (now (cells .exit))) ⌝ }
+{
+    let mut o: usize = 2;
+    let mut i: usize = 0;
+    while i < count {
+        let t = test_step(
+            file,
+            len,
+            o,
+            kind,
+            first,
+            size,
+            listed,
+            zone,
+            place,
+            rows,
+            n,
+            k,
+            cells,
+            counts,
+        );
+        match t {
+            StepTest::Passed(e) => {
+                let next = o + 4 + e;
+                make_step(
+                    file,
+                    o,
+                    e,
+                    kind,
+                    first,
+                    size,
+                    listed,
+                    zone,
+                    place,
+                    cells,
+                    counts,
+                );
+                o = next;
+                i += 1;
+            }
+            _ => {
+                return JudgedSteps {
+                    fault: refusal_of(i, t),
+                    next: o,
+                };
+            }
+        }
+    }
+    JudgedSteps {
+        fault: PlanFault::None,
+        next: o,
+    }
 }

@@ -6,7 +6,8 @@ use lib.ListN.{getD, take}
 use native.Mathlib.Omega.{arith}
 use Rattle.orders.specs.Orders.{leaveTest}
 use Rattle.resolve.specs.Given.{kindAt}
-use Rattle.judge.specs.Steps.{rest-is, found-test}
+use Rattle.judge.specs.Held.{rest-is}
+use Rattle.judge.specs.Steps.{found-test}
 use borrow.Author.Needs.{needs}
 use Rattle.judge.proofs.walk.can_leave_at.Statement.{statement}
 use Rattle.judge.proofs.walk.can_leave_at.Tie as tie

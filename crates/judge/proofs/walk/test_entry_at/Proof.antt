@@ -6,7 +6,7 @@ use lib.ListN.{getD, length, take}
 use native.Mathlib.Omega.{arith}
 use Rattle.orders.specs.Orders.{Holds}
 use Rattle.resolve.specs.Given.{kindAt}
-use Rattle.judge.specs.Steps.{rest-is}
+use Rattle.judge.specs.Held.{rest-is}
 use borrow.Author.Needs.{needs}
 use Rattle.judge.proofs.walk.test_entry_at.Statement.{statement}
 use Rattle.judge.proofs.walk.test_entry_at.Tie as tie
