@@ -48,10 +48,11 @@ pub record JudgedWalk (m : Map) (k : ℕ) (p : List ℕ) (n : ℕ) (s₀ : State
   pub walked : WalkOf m k p n (fresh s₀ []) f next world
   pub held : Held m first counts cells (world .state)
 
--- the plan is cleared, or which refusal
+-- the plan is cleared, or which refusal: what resolving it would come to
 pub record JudgedTo (m : Map) (pl : Placing) (p : List ℕ) (f : PlanFault) : Type 0 where
-  pub moves : List Move
-  pub answer : faultOf f moves ≡ resolvedMoves m pl p
+  pub count : ℕ
+  pub buffer : List ℕ
+  pub resolved : ResolvedTo m pl p [] buffer (record { fault = f; count = count })
 
 module _ (m : Map) (n k : ℕ) (kind first size listed zone place : List ℕ) (rows : List (List ℕ)) (d : Given m n k kind first size listed zone place rows)
     (f : List ℕ) (len : ℕ) (most : len ≤ length f / 512 * 504) (count : ℕ) (s₀ : State) where
@@ -132,22 +133,20 @@ ends-by m n k kind first size listed zone place rows d s g counts cells hc x z h
 module _ (m : Map) (pl : Placing) (f : List ℕ) (len : ℕ) (most : len ≤ length f / 512 * 504) where
   -- the payload ends before the count does
   pub judged-none : len < 2 → JudgedTo m pl (take len (payload f)) (plan.Short 0)
-  judged-none h = let r = resolved-none m pl f len most [] h in record { moves = r .moves; answer = r .answer }
+  judged-none h = record { count = 0; buffer = []; resolved = resolved-none m pl f len most [] h }
 
   module _ (k n : ℕ) (starts : List ℕ) (s : State) (h : 2 ≤ len) (en : n ≡ wire.wordAt f 0) (l : k ≤ length starts) (es : pl .starts ≡ take k starts) (ess : s ≡ meaning.standing (take k starts))
       (first counts cells : List ℕ) where
     -- a refusal of the walk stands
     pub judged-refused : (q : PlanFault) (next : ℕ) → (q ≡ plan.None → ⊥) → JudgedWalk m k (take len (payload f)) n s q next first counts cells → JudgedTo m pl (take len (payload f)) q
     judged-refused q next z d =
-        let r = resolved-refused m pl f len most [] k n starts s h en l es ess q next (d .world) z (d .walked) in
-        record { moves = r .moves; answer = r .answer }
+        record { count = 0; buffer = d .world .buffer; resolved = resolved-refused m pl f len most [] k n starts s h en l es ess q next (d .world) z (d .walked) }
 
     module _ (next : ℕ) (d : JudgedWalk m k (take len (payload f)) n s plan.None next first counts cells) where
       -- something follows the last step
       pub judged-surplus : (next ≡ len → ⊥) → JudgedTo m pl (take len (payload f)) (plan.Short n)
       judged-surplus z =
-          let r = resolved-surplus m pl f len most [] k n starts s h en l es ess next (d .world) (d .walked) z in
-          record { moves = r .moves; answer = r .answer }
+          record { count = 0; buffer = d .world .buffer; resolved = resolved-surplus m pl f len most [] k n starts s h en l es ess next (d .world) (d .walked) z }
 
       -- the goals are tested
       pub judged-goals : Accepted m → zoneCount m ≤ 64 → len ≤ 32256 → (g : State) → g ≡ meaning.standing (pl .goals) → next ≡ len
@@ -159,5 +158,8 @@ module _ (m : Map) (pl : Placing) (f : List ℕ) (len : ℕ) (most : len ≤ len
             reached = λ e. (w .state, refl);
             long = buffer-length (d .world) (endingsFrom (m .zones) (d .world .state) g);
           } in
-          let r = resolved-finish m pl f len most [] k n starts s h en l es ess next (d .world) (d .walked) a few small g eg z (record { fault = q; count = w .count }) (w .buffer) fin in
-          record { moves = r .moves; answer = r .answer }
+          record {
+            count = w .count;
+            buffer = w .buffer;
+            resolved = resolved-finish m pl f len most [] k n starts s h en l es ess next (d .world) (d .walked) a few small g eg z (record { fault = q; count = w .count }) (w .buffer) fin;
+          }
