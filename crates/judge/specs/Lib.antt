@@ -4,4 +4,5 @@ pub mod Zone
 pub mod Held
 pub mod Steps
 pub mod Making
+pub mod Filling
 pub mod Judging

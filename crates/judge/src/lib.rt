@@ -3,6 +3,7 @@
 //     lists   lists of robots in lent bytes
 //     zone    a zone judged by its list
 //     walk    a plan's steps walked on the lists
+pub mod ending;
 pub mod lists;
 pub mod walk;
 pub mod zone;
