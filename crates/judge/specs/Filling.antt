@@ -23,7 +23,7 @@ use Rattle.orders.specs.Packed.{holds-order}
 use Rattle.resolve.specs.Given.{Given, HasZone, part}
 use Rattle.judge.specs.Lists.{Rewritten}
 use Rattle.judge.specs.Held.{listIn, Held, Changed, changed-part, size-is, list-here, list-away, still-few}
-use Rattle.judge.specs.Steps.{rest-is}
+use Rattle.judge.specs.Held.{rest-is}
 use Rattle.judge.specs.Making.{Listed}
 
 -- ---- one zone's list
