@@ -34,6 +34,7 @@ use Rattle.resolve.specs.declared.Resolved.{Resolved}
 use Rattle.galzpuna.specs.declared.Answer.{Answer}
 use Rattle.galzpuna.specs.declared.Yard.{Yard}
 use Rattle.galzpuna.specs.declared.Planned.{Planned}
+use Rattle.galzpuna.specs.declared.Refusal.{Refusal}
 use Rattle.galzpuna.specs.Refusals.{refusalOr, movesFile}
 use Rattle.galzpuna.specs.Opened.{refusal-some, refusal-none, refused-bind, small-at, YardRead, YardIs}
 use Rattle.galzpuna.specs.Services.{refusal}
@@ -50,6 +51,12 @@ pub record PlannedIs (a b c o₀ : List ℕ) (r : Planned) (o : List ℕ) : Type
   pub small : (r .refusal .number ≡ 0 → ⊥) → r .refusal .place < 65536
   pub resolved : r .refusal .number ≡ 0 → Moves a b c o₀ (r .count) o
   pub long : length o ≡ length o₀
+
+-- what judging the three files comes to: what resolving them would, with a buffer of no length
+pub record JudgedIs (a b c : List ℕ) (r : Refusal) : Type 0 where
+  pub count : ℕ
+  pub buffer : List ℕ
+  pub planned : PlannedIs a b c [] (record { refusal = r; count = count }) buffer
 
 -- ---- the tables that the resolver is given
 

@@ -9,7 +9,8 @@ ghost use Rattle.wire.specs.Payload.{payload};
 ghost use Rattle.resolve.specs.Given.{Given, Placement};
 ghost use Rattle.resolve.specs.Whole.{ResolvedTo};
 ghost use Rattle.galzpuna.specs.Opened.{OpenedIs, YardIs};
-ghost use Rattle.galzpuna.specs.Planned.{PlannedIs};
+ghost use Rattle.judge.specs.Judging.{JudgedTo};
+ghost use Rattle.galzpuna.specs.Planned.{PlannedIs, JudgedIs};
 use crate::Opened;
 use crate::Planned;
 use crate::Refusal;
@@ -17,6 +18,7 @@ use crate::Yard;
 use crate::refusals;
 use layout::MapRead;
 use placing::PlacingRead;
+use resolve::PlanFault;
 use resolve::Resolved;
 
 // A placing of no robots, where none is read.
@@ -177,4 +179,64 @@ pub fn resolve_files(map: &[u8], placed: &[u8], plan: &[u8], out: &mut [u8]) -> 
         refusal: d,
         count: r.count,
     }
+}
+
+// Judges the plan in a checked file on a map and a placing that were read.
+fn judge_on(
+    plan: &[u8],
+    len: usize,
+    m: MapRead,
+    listed: [u8; 128],
+    rows: &[[u64; 2]; 128],
+    p: PlacingRead,
+) -> PlanFault
+    requires { ⌜ (len ≤ length (now plan) / 512 * 504) × (len ≤ 32256) ⌝ }
+    requires { ⌜ Placement (m .vertices) (m .zones) (p .robots) (m .kind) (m .first) (m .size) listed (m .zone) (m .place) (now rows) (p .starts) (p .goals) ⌝ }
+    ensures { λ r. ⌜ ((x : Map) (y : Placing) → Given x (m .vertices) (p .robots) (m .kind) (m .first) (m .size) listed (m .zone) (m .place) (now (rows .entry)) → zoneCount x ≡ m .zones → Placed (x .size) y → y .starts ≡ take (p .robots) (p .starts) → y .goals ≡ take (p .robots) (p .goals) → JudgedTo x y (take len (payload (now (plan .entry)))) r) ⌝ }
+{
+    let kind = m.kind;
+    let first = m.first;
+    let size = m.size;
+    let zone = m.zone;
+    let place = m.place;
+    let starts = p.starts;
+    let goals = p.goals;
+    judge::judge_plan(
+        plan,
+        len,
+        &kind,
+        &first,
+        &size,
+        &listed,
+        &zone,
+        &place,
+        rows,
+        m.vertices as usize,
+        m.zones as usize,
+        starts,
+        goals,
+        p.robots as usize,
+    )
+}
+
+// Reads map, placing and plan, and judges the plan; number 0 is cleared.
+pub fn judge_files(map: &[u8], placed: &[u8], plan: &[u8]) -> Refusal
+    ensures { λ r. ⌜ JudgedIs (now (map .entry)) (now (placed .entry)) (now (plan .entry)) r ⌝ }
+{
+    let mut rows = [[0u64; 2]; 128];
+    let y = read_yard(map, placed, &mut rows);
+    let a = y.refusal;
+    if a.number != 0 {
+        return a;
+    }
+    let checked = wire::check_file(plan, 3, 64);
+    let c = refusals::of_plan_file(checked);
+    if c.number != 0 {
+        return c;
+    }
+    let m = y.map;
+    let p = y.placing;
+    let listed = m.listed;
+    let fault = judge_on(plan, c.place, m, listed, &rows, p);
+    refusals::of_plan(fault)
 }

@@ -6,6 +6,7 @@ ghost use mathlib.Core.List.{[]};
 ghost use Rattle.spec.specs.Services.{judging, resolving, drawing, rounds};
 ghost use Rattle.galzpuna.specs.Services.{answered, refusal};
 use crate::Answer;
+use crate::files::judge_files;
 use crate::files::open_list;
 use crate::files::resolve_files;
 
@@ -79,9 +80,7 @@ pub extern "C" fn galzpuna_rounds(
 pub extern "C" fn galzpuna_judge(map: &[u8], placing: &[u8], plan: &[u8]) -> Answer
     ensures { λ r. ⌜ answered r [] ≡ judging (now (map .entry)) (now (placing .entry)) (now (plan .entry)) ⌝ }
 {
-    let mut none = [0u8; 1];
-    let o = resolve_files(map, placing, plan, &mut none);
-    let f = o.refusal;
+    let f = judge_files(map, placing, plan);
     let number = f.number;
     if number != 0 {
         let place = f.place;

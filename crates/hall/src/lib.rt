@@ -12,8 +12,8 @@ ghost use Rattle.spec.specs.State.{across, arrangementOf};
 ghost use Rattle.motion.specs.States.{stateOf};
 ghost use Rattle.motion.specs.World.{worldOf, madeAll};
 
-mod goals;
-mod line;
+pub mod goals;
+pub mod line;
 pub mod reach;
 mod trips;
 

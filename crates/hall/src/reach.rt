@@ -43,7 +43,7 @@ fn count_robots(s: State, zone: &[u8], named: u8) -> Count
 }
 
 // Is there room below place j for t robots and above it for u, of `size` places?
-fn has_room(size: usize, j: usize, t: usize, u: usize) -> bool
+pub fn has_room(size: usize, j: usize, t: usize, u: usize) -> bool
     ensures { λ b. ⌜ b ≡ room size j t u ⌝ }
 {
     if j < t {

@@ -8,7 +8,7 @@
 mod ending;
 pub mod plan;
 mod step;
-mod tests;
+pub mod tests;
 pub mod walk;
 
 pub use plan::resolve_plan;

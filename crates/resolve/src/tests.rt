@@ -18,7 +18,7 @@ use numbering::Robot;
 use numbering::Vertex;
 
 // Are the robot and the vertices of a step below k and n?
-fn are_numbered(n: usize, k: usize, r: u8, u: u8, v: u8) -> bool
+pub fn are_numbered(n: usize, k: usize, r: u8, u: u8, v: u8) -> bool
     ensures { λ b. ⌜ b ≡ numbered n k r u v ⌝ }
 {
     if k <= r as usize {
@@ -34,7 +34,7 @@ fn are_numbered(n: usize, k: usize, r: u8, u: u8, v: u8) -> bool
 }
 
 // Does an edge lead from u to v, in another zone?
-fn is_crossing(zone: &[u8; 128], rows: &[[u64; 2]; 128], u: u8, v: u8) -> bool
+pub fn is_crossing(zone: &[u8; 128], rows: &[[u64; 2]; 128], u: u8, v: u8) -> bool
     requires { ⌜ (u < 128) × (v < 128) ⌝ }
     ensures { λ b. ⌜ ((m : Map) (n k : ℕ) (kind first size listed place : List ℕ) → Given m n k kind first size listed (now (zone .entry)) place (now (rows .entry)) → u < n → v < n → b ≡ crosses m u v) ⌝ }
 {

@@ -18,7 +18,7 @@ use crate::tests::test_step;
 use motion::Run;
 
 // The refusal of step i, which did not pass.
-fn refusal_of(i: usize, t: StepTest) -> PlanFault
+pub fn refusal_of(i: usize, t: StepTest) -> PlanFault
     ensures { λ f. ⌜ f ≡ refusalOf i t ⌝ }
 {
     match t {

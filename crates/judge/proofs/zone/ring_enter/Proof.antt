@@ -1,0 +1,62 @@
+use borrow.Author.Needs.{needs}
+use native.Mathlib.Omega.{arith}
+use Prim.Native.Nat.{_≤_}
+use lib.ListN.{take, length}
+use lib.Seq.{length-take-le}
+use Rattle.judge.specs.Zone.{wider, put-as, entry-most, ring-free, ring-filled}
+use borrow.Author.Needs.{needs}
+use Rattle.judge.proofs.zone.ring_enter.Statement.{statement}
+use Rattle.judge.proofs.zone.ring_enter.Tie as tie
+use Rattle.judge.proofs.zone.entry_index.Reads as entry-index-reads
+use Rattle.judge.proofs.zone.put_in.Reads as put-in-reads
+use Rattle.judge.proofs.zone.turn_count.Reads as turn-count-reads
+use Rattle.judge.proofs.zone.turn_first.Reads as turn-first-reads
+
+entry-index-requires : tie.Need-entry-index-requires
+entry-index-requires c κs = search needs
+
+put-in-requires : tie.Need-put-in-requires
+put-in-requires c κs = search needs
+
+add-if1 : tie.Need-add-if1
+add-if1 c = search needs
+
+same-length : tie.Need-same-length
+same-length c = search needs
+
+returns : tie.Need-returns
+returns c =
+    let a = c .before .before .before .before .before .before .before .before .args in
+    let h : a .n ≤ length (a .part .now) = omega (arith, c .before .before .before .before .before .before .before .before .pre) in
+    put-as _ _ _ _ _ (ring-free (take (a .n) (a .part .now)) (a .size) (a .r) (a .j) (a .behind) _ (λ z. c .if1 .taken (omega (arith, length-take-le (a .n) (a .part .now) h))) (c .before .before .before .before .before .entry-index .ensures)) (wider _ _ (a .size) _ _ (omega (arith, c .before .before .before .before .before .before .before .before .pre)) (c .before .before .before .put-in .ensures))
+
+turn-count-requires : tie.Need-turn-count-requires
+turn-count-requires c κs =
+    let a = c .before .before .before .before .before .before .before .before .args in
+    let h : a .n ≤ length (a .part .now) = omega (arith, c .before .before .before .before .before .before .before .before .pre) in
+    (c .before .before .before .before .before .before .before .before .pre .2, omega (arith, c .before .before .before .before .before .entry-index .ensures, entry-most (a .behind) (take (a .n) (a .part .now)), length-take-le (a .n) (a .part .now) h, c .if1 .left), c .before .before .before .before .before .before .before .before .pre .3)
+
+turn-first-requires : tie.Need-turn-first-requires
+turn-first-requires c κs = search needs
+
+same-length-2 : tie.Need-same-length-2
+same-length-2 c = search needs
+
+returns-2 : tie.Need-returns-2
+returns-2 c =
+    let a = c .before .before .before .before .before .before .before .before .before .before .before .before .before .args in
+    ring-filled (a .part .now) _ _ (a .n) (a .size) (a .r) (a .j) (a .behind) _ _ (c .before .before .before .before .before .before .before .before .before .before .before .before .before .pre .1) (c .before .before .before .before .before .if1 .left) (c .before .before .before .before .before .before .before .before .before .before .entry-index .ensures) (c .before .before .before .before .turn-count .ensures .0) (c .before .before .before .before .before .before .before .before .put-in .ensures) (c .before .before .turn-first .ensures)
+
+pub ring-enter-spec : {M : Type 1} → statement M
+ring-enter-spec =
+    tie.close
+    (tie.spec
+    entry-index-requires
+    put-in-requires
+    add-if1
+    same-length
+    returns
+    turn-count-requires
+    turn-first-requires
+    same-length-2
+    returns-2)

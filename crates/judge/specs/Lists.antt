@@ -1,0 +1,283 @@
+-- Lists of robots in lent bytes: the first elements are the list, and what stands behind them is left as it is.
+use mathlib.Core.Path.{_≡_, refl, sym, ap, _∙_}
+use mathlib.Core.List.{List, [], _∷_, _++_}
+use Prim.Native.Nat.{ℕ, zero, suc, _+_, _-_, _≤_, _<_}
+use native.Mathlib.Omega.{arith}
+use native.Mathlib.Decide.{ℕ-discrete, decLt}
+use lib.ListN.{length, getD, set, take, drop, length-append, length-set, length-drop, List·getD-append}
+use lib.Seq.{length-take-le, getD-take, getD-drop, getD-set-same, getD-set-other, ext-getD, getD-append-add}
+use Rattle.orders.specs.Orders.{without, putIn, turnedBy}
+
+-- the list l is put first, and what stands from element n on is left
+pub record Rewritten (p : List ℕ) (n : ℕ) (l : List ℕ) (q : List ℕ) : Type 0 where
+  pub long : length q ≡ length p
+  pub here : take (length l) q ≡ l
+  pub past : (k : ℕ) → n ≤ k → getD q k 0 ≡ getD p k 0
+
+-- what is left further behind is left
+pub wider : {p : List ℕ} {n : ℕ} {l q : List ℕ} (m : ℕ) → n ≤ m → Rewritten p n l q → Rewritten p m l q
+wider m h w = record { long = w .long; here = w .here; past = λ k b. w .past k (omega arith) }
+
+-- ---- appended lists, element by element
+
+-- an element of the first
+pub append-left : (xs ys : List ℕ) (n k : ℕ) → length xs ≡ n → k < n → getD (xs ++ ys) k 0 ≡ getD xs k 0
+append-left xs ys n k e h = List·getD-append xs ys 0 k (omega (arith, e))
+
+-- an element of the second
+pub append-right : (xs ys : List ℕ) (n k : ℕ) → length xs ≡ n → n ≤ k → getD (xs ++ ys) k 0 ≡ getD ys (k - n) 0
+append-right xs ys n k e h =
+    let q : k ≡ length xs + (k - n) = omega (arith, e) in
+    ap (λ (i : ℕ). getD (xs ++ ys) i 0) q ∙ getD-append-add xs ys (k - n) 0
+
+-- ---- an element taken out
+
+-- as far as element i those behind element t have come one nearer
+pub record Shifting (p : List ℕ) (t i : ℕ) (q : List ℕ) : Type 0 where
+  pub long : length q ≡ length p
+  pub under : (k : ℕ) → k < t → getD q k 0 ≡ getD p k 0
+  pub over : (k : ℕ) → t ≤ k → k < i → getD q k 0 ≡ getD p (k + 1) 0
+  pub past : (k : ℕ) → i ≤ k → getD q k 0 ≡ getD p k 0
+
+-- none yet
+pub shift-none : (p : List ℕ) (t : ℕ) → Shifting p t t p
+shift-none p t = record { long = refl; under = λ k h. refl; over = λ k h l. absurd (omega arith); past = λ k h. refl }
+
+-- one more
+pub shift-more : (p : List ℕ) (t i : ℕ) (q : List ℕ) → t ≤ i → i < length p → Shifting p t i q → Shifting p t (i + 1) (set q i (getD q (i + 1) 0))
+shift-more p t i q h l s = record {
+  long = length-set q i _ ∙ s .long;
+  under = λ k b. getD-set-other q i k _ 0 (λ e. omega arith) ∙ s .under k b;
+  over = λ k b d. case k b d (ℕ-discrete k i);
+  past = λ k b. getD-set-other q i k _ 0 (λ e. omega arith) ∙ s .past k (omega arith);
+}
+  where
+    case : (k : ℕ) → t ≤ k → k < i + 1 → Dec (k ≡ i) → getD (set q i (getD q (i + 1) 0)) k 0 ≡ getD p (k + 1) 0
+    case k b d (yes e) = rw e (getD-set-same q i _ 0 (omega (arith, s .long)) ∙ s .past (i + 1) (omega arith))
+    case k b d (no n) = getD-set-other q i k _ 0 n ∙ s .over k b (omega arith)
+
+-- a list without an element, element by element
+pub without-length : (t : ℕ) (l : List ℕ) → t < length l → length (without t l) ≡ length l - 1
+unfolding without
+without-length t l h = rw (length-append (take t l) (drop (suc t) l), length-take-le t l (omega arith), length-drop (suc t) l) (omega arith)
+
+without-under : (t : ℕ) (l : List ℕ) (k : ℕ) → t < length l → k < t → getD (without t l) k 0 ≡ getD l k 0
+unfolding without
+without-under t l k h b = append-left (take t l) (drop (suc t) l) t k (length-take-le t l (omega arith)) b ∙ getD-take t l k 0 b
+
+without-over : (t : ℕ) (l : List ℕ) (k : ℕ) → t < length l → t ≤ k → getD (without t l) k 0 ≡ getD l (k + 1) 0
+unfolding without
+without-over t l k h b =
+    let e : suc t + (k - t) ≡ k + 1 = omega arith in
+    append-right (take t l) (drop (suc t) l) t k (length-take-le t l (omega arith)) b ∙ getD-drop (suc t) l (k - t) 0 ∙ ap (λ (i : ℕ). getD l i 0) e
+
+-- all have come nearer
+pub shift-all : (p : List ℕ) (n t i : ℕ) (q : List ℕ) → t < n → n ≤ length p → n ≤ i + 1 → i < n → Shifting p t i q → Rewritten p n (without t (take n p)) q
+shift-all p n t i q h l b d s = record { long = s .long; here = same; past = λ k x. s .past k (omega arith) }
+  where
+    long : length (take n p) ≡ n
+    long = length-take-le n p l
+
+    short : length (without t (take n p)) ≡ n - 1
+    short = without-length t (take n p) (omega (arith, long)) ∙ ap (λ (x : ℕ). x - 1) long
+
+    cut : length (take (length (without t (take n p))) q) ≡ length (without t (take n p))
+    cut = length-take-le _ q (omega (arith, short, s .long))
+
+    at : (k : ℕ) → k < n - 1 → Dec (k < t) → getD q k 0 ≡ getD (without t (take n p)) k 0
+    at k x (yes y) = s .under k y ∙ sym (getD-take n p k 0 (omega arith)) ∙ sym (without-under t (take n p) k (omega (arith, long)) y)
+    at k x (no y) = s .over k (omega arith) (omega arith) ∙ sym (getD-take n p (k + 1) 0 (omega arith)) ∙ sym (without-over t (take n p) k (omega (arith, long)) (omega arith))
+
+    same : take (length (without t (take n p))) q ≡ without t (take n p)
+    same = ext-getD 0 _ _ cut (λ k x. getD-take (length (without t (take n p))) q k 0 (omega (arith, cut)) ∙ at k (omega (arith, cut, short)) (decLt k t))
+
+-- ---- an element put in
+
+-- from element i on the first n have gone one further
+pub record Parting (p : List ℕ) (n i : ℕ) (q : List ℕ) : Type 0 where
+  pub long : length q ≡ length p
+  pub under : (k : ℕ) → k ≤ i → getD q k 0 ≡ getD p k 0
+  pub over : (k : ℕ) → i ≤ k → k < n → getD q (k + 1) 0 ≡ getD p k 0
+  pub past : (k : ℕ) → n < k → getD q k 0 ≡ getD p k 0
+
+-- none yet
+pub part-none : (p : List ℕ) (n : ℕ) → Parting p n n p
+part-none p n = record { long = refl; under = λ k h. refl; over = λ k h l. absurd (omega arith); past = λ k h. refl }
+
+-- one more
+pub part-more : (p : List ℕ) (n i : ℕ) (q : List ℕ) → 0 < i → i ≤ n → n < length p → Parting p n i q → Parting p n (i - 1) (set q i (getD q (i - 1) 0))
+part-more p n i q z h l s = record {
+  long = length-set q i _ ∙ s .long;
+  under = λ k b. getD-set-other q i k _ 0 (λ e. omega arith) ∙ s .under k (omega arith);
+  over = λ k b d. case k b d (ℕ-discrete (k + 1) i);
+  past = λ k b. getD-set-other q i k _ 0 (λ e. omega arith) ∙ s .past k (omega arith);
+}
+  where
+    case : (k : ℕ) → i - 1 ≤ k → k < n → Dec (k + 1 ≡ i) → getD (set q i (getD q (i - 1) 0)) (k + 1) 0 ≡ getD p k 0
+    case k b d (yes e) =
+        let f : i - 1 ≡ k = omega arith in
+        rw e (getD-set-same q i _ 0 (omega (arith, s .long)) ∙ s .under (i - 1) (omega arith)) ∙ ap (λ (x : ℕ). getD p x 0) f
+    case k b d (no m) = getD-set-other q i (k + 1) _ 0 m ∙ s .over k (omega arith) d
+
+-- a list with an element more, element by element
+pub putIn-length : (t r : ℕ) (l : List ℕ) → t ≤ length l → length (putIn t r l) ≡ length l + 1
+unfolding putIn
+putIn-length t r l h = rw (length-append (take t l) (r ∷ drop t l), length-take-le t l h) (omega (arith, length-drop t l))
+
+put-under : (t r : ℕ) (l : List ℕ) (k : ℕ) → t ≤ length l → k < t → getD (putIn t r l) k 0 ≡ getD l k 0
+unfolding putIn
+put-under t r l k h b = append-left (take t l) (r ∷ drop t l) t k (length-take-le t l h) b ∙ getD-take t l k 0 b
+
+put-here : (t r : ℕ) (l : List ℕ) → t ≤ length l → getD (putIn t r l) t 0 ≡ r
+unfolding putIn
+put-here t r l h =
+    let e : t - t ≡ 0 = omega arith in
+    append-right (take t l) (r ∷ drop t l) t t (length-take-le t l h) (omega arith) ∙ ap (λ (i : ℕ). getD (r ∷ drop t l) i 0) e
+
+put-over : (t r : ℕ) (l : List ℕ) (k : ℕ) → t ≤ length l → t ≤ k → getD (putIn t r l) (k + 1) 0 ≡ getD l k 0
+unfolding putIn
+put-over t r l k h b =
+    let e : k + 1 - t ≡ suc (k - t) = omega arith in
+    let f : t + (k - t) ≡ k = omega arith in
+    append-right (take t l) (r ∷ drop t l) t (k + 1) (length-take-le t l h) (omega arith) ∙ ap (λ (i : ℕ). getD (r ∷ drop t l) i 0) e ∙ getD-drop t l (k - t) 0 ∙ ap (λ (i : ℕ). getD l i 0) f
+
+-- all have gone further, and the new one is in its place
+pub part-all : (p : List ℕ) (n t r i : ℕ) (q : List ℕ) → t ≤ n → n < length p → i ≡ t → Parting p n i q → Rewritten p (n + 1) (putIn t r (take n p)) (set q i r)
+part-all p n t r i q h l e s = record {
+  long = length-set q i r ∙ s .long;
+  here = same;
+  past = λ k x. getD-set-other q i k r 0 (λ y. omega arith) ∙ s .past k (omega arith);
+}
+  where
+    long : length (take n p) ≡ n
+    long = length-take-le n p (omega arith)
+
+    more : length (putIn t r (take n p)) ≡ n + 1
+    more = putIn-length t r (take n p) (omega (arith, long)) ∙ ap (λ (x : ℕ). x + 1) long
+
+    cut : length (take (length (putIn t r (take n p))) (set q i r)) ≡ length (putIn t r (take n p))
+    cut = length-take-le _ (set q i r) (omega (arith, more, length-set q i r, s .long))
+
+    at : (k : ℕ) → k < n + 1 → Dec (k < t) → Dec (k ≡ t) → getD (set q i r) k 0 ≡ getD (putIn t r (take n p)) k 0
+    at k x (yes y) z = getD-set-other q i k r 0 (λ w. omega arith) ∙ s .under k (omega arith) ∙ sym (getD-take n p k 0 (omega arith)) ∙ sym (put-under t r (take n p) k (omega (arith, long)) y)
+    at k x (no y) (yes z) = let w : k ≡ i = omega arith in rw (z, e) (getD-set-same q t r 0 (omega (arith, s .long)) ∙ sym (put-here t r (take n p) (omega (arith, long))))
+    at k x (no y) (no z) =
+        let w : k - 1 + 1 ≡ k = omega arith in
+        getD-set-other q i k r 0 (λ u. omega arith) ∙ ap (λ (u : ℕ). getD q u 0) (sym w) ∙ s .over (k - 1) (omega arith) (omega arith)
+        ∙ sym (getD-take n p (k - 1) 0 (omega arith)) ∙ sym (put-over t r (take n p) (k - 1) (omega (arith, long)) (omega arith)) ∙ ap (λ (u : ℕ). getD (putIn t r (take n p)) u 0) w
+
+    same : take (length (putIn t r (take n p))) (set q i r) ≡ putIn t r (take n p)
+    same = ext-getD 0 _ _ cut (λ k x. getD-take (length (putIn t r (take n p))) (set q i r) k 0 (omega (arith, cut)) ∙ at k (omega (arith, cut, more)) (decLt k t) (ℕ-discrete k t))
+
+-- ---- a list stored
+
+-- the first i elements are the list's
+pub record Storing (p : List ℕ) (l : List ℕ) (i : ℕ) (q : List ℕ) : Type 0 where
+  pub long : length q ≡ length p
+  pub under : (k : ℕ) → k < i → getD q k 0 ≡ getD l k 0
+  pub past : (k : ℕ) → i ≤ k → getD q k 0 ≡ getD p k 0
+
+-- none yet
+pub store-none : (p l : List ℕ) → Storing p l 0 p
+store-none p l = record { long = refl; under = λ k h. absurd (omega arith); past = λ k h. refl }
+
+-- one more
+pub store-more : (p l : List ℕ) (i x : ℕ) (q : List ℕ) → i < length p → x ≡ getD l i 0 → Storing p l i q → Storing p l (i + 1) (set q i x)
+store-more p l i x q h e s = record {
+  long = length-set q i x ∙ s .long;
+  under = λ k b. case k b (ℕ-discrete k i);
+  past = λ k b. getD-set-other q i k x 0 (λ y. omega arith) ∙ s .past k (omega arith);
+}
+  where
+    case : (k : ℕ) → k < i + 1 → Dec (k ≡ i) → getD (set q i x) k 0 ≡ getD l k 0
+    case k b (yes y) = rw y (getD-set-same q i x 0 (omega (arith, s .long)) ∙ e)
+    case k b (no y) = getD-set-other q i k x 0 y ∙ s .under k (omega arith)
+
+-- all are
+pub store-all : (p l : List ℕ) (i : ℕ) (q : List ℕ) → length l ≤ length p → i ≡ length l → Storing p l i q → Rewritten p (length l) l q
+store-all p l i q h e s =
+    let cut : length (take (length l) q) ≡ length l = length-take-le (length l) q (omega (arith, s .long)) in
+    record {
+      long = s .long;
+      here = ext-getD 0 _ _ cut (λ k x. getD-take (length l) q k 0 (omega (arith, cut)) ∙ s .under k (omega (arith, cut)));
+      past = λ k x. s .past k (omega arith);
+    }
+
+-- a whole part is the list
+pub stored-whole : (p l q : List ℕ) → length l ≡ length p → Rewritten p (length l) l q → q ≡ l
+stored-whole p l q e w = sym (lib.Seq.take-all (length l) q (omega (arith, w .long))) ∙ w .here
+
+-- ---- a list turned
+
+-- element k of a list read from its element q on
+turned-before : (q : ℕ) (l : List ℕ) (k : ℕ) → q ≤ length l → q + k < length l → getD (turnedBy q l) k 0 ≡ getD l (q + k) 0
+unfolding turnedBy
+turned-before q l k h b = append-left (drop q l) (take q l) (length l - q) k (length-drop q l) (omega arith) ∙ getD-drop q l k 0
+
+turned-after : (q : ℕ) (l : List ℕ) (k : ℕ) → q ≤ length l → length l ≤ q + k → k < length l → getD (turnedBy q l) k 0 ≡ getD l (q + k - length l) 0
+unfolding turnedBy
+turned-after q l k h b d =
+    let e : k - (length l - q) ≡ q + k - length l = omega arith in
+    append-right (drop q l) (take q l) (length l - q) k (length-drop q l) (omega arith) ∙ ap (λ (i : ℕ). getD (take q l) i 0) e ∙ getD-take q l (q + k - length l) 0 (omega arith)
+
+-- turning keeps the length
+pub turnedBy-length : (q : ℕ) (l : List ℕ) → q ≤ length l → length (turnedBy q l) ≡ length l
+unfolding turnedBy
+turnedBy-length q l h = rw (length-append (drop q l) (take q l), length-drop q l, length-take-le q l h) (omega arith)
+
+-- the first i elements are those of l, read from element q on, and the next is element at of l
+pub record Reading (l : List ℕ) (q i at : ℕ) (c : List ℕ) : Type 0 where
+  pub long : length c ≡ length l
+  pub inside : at < length l
+  pub under : (k : ℕ) → k < i → getD c k 0 ≡ getD (turnedBy q l) k 0
+  pub before : q + i < length l → at ≡ q + i
+  pub after : length l ≤ q + i → at + length l ≡ q + i
+
+-- none yet
+pub read-none : (l : List ℕ) (q : ℕ) (c : List ℕ) → q < length l → length c ≡ length l → Reading l q 0 q c
+read-none l q c h e = record { long = e; inside = h; under = λ k b. absurd (omega arith); before = λ b. omega arith; after = λ b. absurd (omega arith) }
+
+module _ (l : List ℕ) (q i at : ℕ) (c : List ℕ) (x : ℕ) (hq : q < length l) (h : i < length l) (e : x ≡ getD l at 0) (r : Reading l q i at c) where
+  -- the element that was read
+  taken : Dec (q + i < length l) → x ≡ getD (turnedBy q l) i 0
+  taken (yes b) = e ∙ ap (λ (k : ℕ). getD l k 0) (r .before b) ∙ sym (turned-before q l i (omega arith) b)
+  taken (no b) =
+      let f : at ≡ q + i - length l = omega (arith, r .after (omega arith)) in
+      e ∙ ap (λ (k : ℕ). getD l k 0) f ∙ sym (turned-after q l i (omega arith) (omega arith) h)
+
+  -- the elements so far
+  under-more : (k : ℕ) → k < i + 1 → Dec (k ≡ i) → getD (set c i x) k 0 ≡ getD (turnedBy q l) k 0
+  under-more k b (yes y) = rw y (getD-set-same c i x 0 (omega (arith, r .long)) ∙ taken (decLt (q + i) (length l)))
+  under-more k b (no y) = getD-set-other c i k x 0 y ∙ r .under k (omega arith)
+
+  -- the next stands behind
+  pub read-on : (at + 1 ≡ length l → ⊥) → Reading l q (i + 1) (at + 1) (set c i x)
+  read-on n = record {
+    long = length-set c i x ∙ r .long;
+    inside = omega (arith, r .inside);
+    under = λ k b. under-more k b (ℕ-discrete k i);
+    before = λ b. omega (arith, r .before (omega arith));
+    after = λ b. on b (decLt (q + i) (length l));
+  }
+    where
+      on : length l ≤ q + (i + 1) → Dec (q + i < length l) → at + 1 + length l ≡ q + (i + 1)
+      on b (yes d) = absurd (n (omega (arith, r .before d)))
+      on b (no d) = omega (arith, r .after (omega arith))
+
+  -- the next is the first
+  pub read-round : at + 1 ≡ length l → Reading l q (i + 1) 0 (set c i x)
+  read-round n = record {
+    long = length-set c i x ∙ r .long;
+    inside = omega (arith, r .inside);
+    under = λ k b. under-more k b (ℕ-discrete k i);
+    before = λ b. absurd (omega (arith, r .before (omega arith)));
+    after = λ b. on (decLt (q + i) (length l));
+  }
+    where
+      on : Dec (q + i < length l) → 0 + length l ≡ q + (i + 1)
+      on (yes d) = omega (arith, r .before d)
+      on (no d) = absurd (omega (arith, r .after (omega arith)))
+
+-- all are read
+pub read-all : (l : List ℕ) (q i at : ℕ) (c : List ℕ) → q < length l → length l ≤ i → Reading l q i at c → c ≡ turnedBy q l
+read-all l q i at c hq h r = ext-getD 0 c (turnedBy q l) (r .long ∙ sym (turnedBy-length q l (omega arith))) (λ k b. r .under k (omega (arith, r .long)))

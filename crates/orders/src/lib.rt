@@ -1,0 +1,1 @@
+// A zone's configuration as the list of its robots: definitions and laws.
