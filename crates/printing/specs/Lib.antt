@@ -4,3 +4,4 @@ pub mod Listing
 pub mod Longer
 pub mod Lines
 pub mod Listed
+pub mod Yard
