@@ -187,7 +187,7 @@ module _ (m : Map) (n k : ℕ) (kind first size listed zone place : List ℕ) (r
 
     -- so in no other
     elsewhere : Absent (arrangementIn m s (zoneOf m v)) r
-    elsewhere = absent m (d .accepted) k (d .few) s hc (zoneOf m v) (zoneOf m u) zone-v zone-u (λ e. t .apart (sym e)) (stood .0) r (stood .1)
+    elsewhere = absent m (d .accepted) k s hc (zoneOf m v) (zoneOf m u) zone-v zone-u (λ e. t .apart (sym e)) (stood .0) r (stood .1)
 
     -- the list of the zone that is left, after the step
     left-holds : Holds (kindOf m (zoneOf m u)) (without (indexOf r leftList) leftList) (arrangementIn m after (zoneOf m u))
