@@ -7,10 +7,10 @@ ghost use Rattle.spec.specs.Arrangement.{mv};
 ghost use Rattle.theory.specs.Maps.Layout.{Accepted};
 ghost use Rattle.layout.specs.Map.{MapHeld};
 ghost use Rattle.wire.specs.Laid.{laidAll};
-ghost use Rattle.motion.specs.States.{stateOf};
-ghost use Rattle.motion.specs.Tables.{onVertices};
+ghost use Rattle.motion.specs.States.{stateOf, movedBy};
+ghost use Rattle.motion.specs.Tables.{tabled, onVertices};
 ghost use Rattle.replay.specs.Drawn.{MoveDrawn, partOf, EndsOn, AllDrawn};
-ghost use Rattle.replay.specs.Moves.{fileBytes};
+ghost use Rattle.replay.specs.Moves.{fileBytes, threeMove};
 ghost use Rattle.replay.specs.Follow.{seated, followed, stepFrom};
 use crate::Drawn;
 use layout::MapRead;
@@ -127,8 +127,34 @@ fn draw_move(
     }
 }
 
-// Lays the steps of the list's first `count` moves, made from state s, after the two bytes of the count. The move before is
-// made first, so that a step is read as its robot comes in; robot 255 and vertex 255 stand for no move.
+// Makes the move before, and lays the step of the next one, if that is a move between zones: as its robot comes in.
+fn next_step(
+    d: Drawn,
+    robots: &mut [u8],
+    vertices: &mut [u8],
+    map: MapRead,
+    listed: &[u8],
+    last: Three,
+    x: Three,
+    out: &mut [u8],
+) -> Drawn
+    requires { ⌜ (d .steps < 65536) × (d .bytes < 4294967040) ⌝ }
+    ensures { λ q. ⌜ tabled (now (robots .exit)) (now (vertices .exit)) ≡ movedBy (tabled (now (robots .entry)) (now (vertices .entry))) (threeMove last) ⌝ }
+    ensures { λ q. ⌜ ((m : Map) → MapHeld map m → now (listed .entry) ≡ map .listed → x .third < m .size → Accepted m → MoveDrawn m (movedBy (tabled (now (robots .entry)) (now (vertices .entry))) (threeMove last)) (threeMove x) d (now (out .entry)) q (now (out .exit))) ⌝ }
+    ensures { λ q. ⌜ (q .steps ≤ d .steps + 1) × (q .bytes ≤ d .bytes + 132) ⌝ }
+{
+    motion::shift(
+        robots,
+        vertices,
+        Robot(last.first),
+        Vertex(last.second),
+        Vertex(last.third),
+    );
+    draw_move(d, robots, map, listed, x.first, x.second, x.third, out)
+}
+
+// Lays the steps of the list's first `count` moves, made from state s, after the two bytes of the count. Robot 255 and vertex
+// 255 stand for no move.
 pub fn draw_moves(
     file: &[u8],
     count: usize,
@@ -153,14 +179,7 @@ pub fn draw_moves(
     let mut i: usize = 0;
     while i < count {
         let x = wire::payload_three(file, 2 + i * 3);
-        motion::shift(
-            &mut robots,
-            &mut vertices,
-            Robot(last.first),
-            Vertex(last.second),
-            Vertex(last.third),
-        );
-        d = draw_move(d, &robots, map, &listed, x.first, x.second, x.third, out);
+        d = next_step(d, &mut robots, &mut vertices, map, &listed, last, x, out);
         last = x;
         i += 1;
     }

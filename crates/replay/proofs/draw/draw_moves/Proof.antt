@@ -8,7 +8,7 @@ use Rattle.layout.specs.Map.{MapHeld}
 use Rattle.motion.specs.States.{movedBy}
 use Rattle.motion.specs.Tables.{tabled}
 use Rattle.replay.specs.Moves.{fileBytes, threeMove, three-bytes, three-move, lent-tables}
-use Rattle.replay.specs.Drawn.{EndsOn, Drawing, drawing-first, drawing-next, drawn-same, all-drawn}
+use Rattle.replay.specs.Drawn.{EndsOn, Drawing, drawing-first, drawing-next, all-drawn}
 use borrow.Author.Needs.{needs}
 use native.Mathlib.Omega.{arith}
 use Rattle.replay.proofs.draw.draw_moves.Statement.{statement}
@@ -56,23 +56,17 @@ add-payload-three c = search needs
 payload-three-requires : tie.Need-payload-three-requires Inv-loop μ-loop
 payload-three-requires c κs = search needs
 
-slice-aggregate-shift : tie.Need-slice-aggregate-shift Inv-loop μ-loop
-slice-aggregate-shift c = search needs
+slice-aggregate-next-step : tie.Need-slice-aggregate-next-step Inv-loop μ-loop
+slice-aggregate-next-step c = search needs
 
-slice-aggregate-shift-2 : tie.Need-slice-aggregate-shift-2 Inv-loop μ-loop
-slice-aggregate-shift-2 c = search needs
+slice-aggregate-next-step-2 : tie.Need-slice-aggregate-next-step-2 Inv-loop μ-loop
+slice-aggregate-next-step-2 c = search needs
 
-shift-requires : tie.Need-shift-requires Inv-loop μ-loop
-shift-requires c κs = search needs
+slice-aggregate-next-step-3 : tie.Need-slice-aggregate-next-step-3 Inv-loop μ-loop
+slice-aggregate-next-step-3 c = search needs
 
-slice-aggregate-draw-move : tie.Need-slice-aggregate-draw-move Inv-loop μ-loop
-slice-aggregate-draw-move c = search needs
-
-slice-aggregate-draw-move-2 : tie.Need-slice-aggregate-draw-move-2 Inv-loop μ-loop
-slice-aggregate-draw-move-2 c = search needs
-
-draw-move-requires : tie.Need-draw-move-requires Inv-loop μ-loop
-draw-move-requires c κs = search needs
+next-step-requires : tie.Need-next-step-requires Inv-loop μ-loop
+next-step-requires c κs = search needs
 
 add-i : tie.Need-add-i Inv-loop μ-loop
 add-i c = search needs
@@ -83,21 +77,20 @@ loop-less c = search needs
 loop-again : tie.Need-loop-again Inv-loop μ-loop
 loop-again c = (
   search needs,
-  omega (arith, c .before .before .draw-move .ensures .1 .0),
-  omega (arith, c .before .before .draw-move .ensures .1 .1),
+  omega (arith, c .before .before .before .before .next-step .ensures .1 .1 .0),
+  omega (arith, c .before .before .before .before .next-step .ensures .1 .1 .1),
   search needs,
   search needs,
   search needs,
   search needs,
   λ m h g el en.
-      let a = c .before .before .before .before .before .before .before .before .before .before .before .before .before .before .before .before .before .before .before .before .before .before .args in
-      let o = c .before .before .before .before .before .before .before .before .before .before .before .before .before .loop in
-      let x = c .before .before .before .before .before .before .before .before .before .before .before .payload-three in
-      drawing-next m (fileBytes (a .file .now)) _ _ _ (o .i) (movedBy (tabled (o .robots) (o .vertices)) (threeMove (o .last))) _ _ _ _ _ _ (o .inv .7 m h g el en) (c .before .before .before .before .before .before .before .before .before .before .before .before .loop-test .taken)
+      let a = c .before .before .before .before .before .before .before .before .before .before .before .before .before .before .before .before .before .before .before .before .args in
+      let o = c .before .before .before .before .before .before .before .before .before .before .before .loop in
+      let x = c .before .before .before .before .before .before .before .before .before .payload-three in
+      drawing-next m (fileBytes (a .file .now)) _ _ _ (o .i) (movedBy (tabled (o .robots) (o .vertices)) (threeMove (o .last))) _ _ _ _ _ _ (o .inv .7 m h g el en) (c .before .before .before .before .before .before .before .before .before .before .loop-test .taken)
       (three-move (a .file .now) (o .i) (x .result) (x .ensures))
-      (ap (λ (t : State). movedBy t (threeMove (x .result))) (c .before .before .before .before .before .before .before .before .shift .ensures))
-      (drawn-same m _ _ _ _ _ _ _ _ (c .before .before .before .before .before .before .before .before .shift .ensures)
-      (c .before .before .draw-move .ensures .0 m h el (rw (three-bytes (a .file .now) (o .i) (x .result) (x .ensures) .2) (en (o .i) (c .before .before .before .before .before .before .before .before .before .before .before .before .loop-test .taken))) g)),
+      (ap (λ (t : State). movedBy t (threeMove (x .result))) (c .before .before .before .before .next-step .ensures .0))
+      (c .before .before .before .before .next-step .ensures .1 .0 m h el (rw (three-bytes (a .file .now) (o .i) (x .result) (x .ensures) .2) (en (o .i) (c .before .before .before .before .before .before .before .before .before .before .loop-test .taken))) g),
 )
 
 same-length : tie.Need-same-length Inv-loop μ-loop
@@ -122,12 +115,10 @@ draw-moves-spec =
     mul-payload-three
     add-payload-three
     payload-three-requires
-    slice-aggregate-shift
-    slice-aggregate-shift-2
-    shift-requires
-    slice-aggregate-draw-move
-    slice-aggregate-draw-move-2
-    draw-move-requires
+    slice-aggregate-next-step
+    slice-aggregate-next-step-2
+    slice-aggregate-next-step-3
+    next-step-requires
     add-i
     loop-less
     loop-again
