@@ -1,31 +1,10 @@
 // The edges of a map, entered into the rows.
 use crate::MapFault;
+use wire::byte_at;
+use wire::next_place;
 ghost use mathlib.Core.Path.{_≡_};
-ghost use Prim.Native.Nat.{ℕ, _+_, _*_, _<_, _≤_};
-ghost use lib.ListN.{getD};
-ghost use Rattle.wire.specs.Payload.{placeOf};
+ghost use Prim.Native.Nat.{_≤_};
 ghost use Rattle.layout.specs.Edges.{EdgesAre, EdgesFound};
-
-// Byte `at` of the file; 0 past its end.
-fn byte_at(file: &[u8], at: usize) -> u8
-    ensures { λ r. ⌜ r ≡ getD (now (file .entry)) at 0 ⌝ }
-{
-    if at < file.len() {
-        return file[at];
-    }
-    0
-}
-
-// Where the next payload byte stands: a block's last is its byte 509, and the next block's first is its byte 6.
-fn next_place(at: usize) -> usize
-    requires { ⌜ at ≤ 1000000 ⌝ }
-    ensures { λ r. ⌜ ((off : ℕ) → at ≡ placeOf off → r ≡ placeOf (off + 1)) ⌝ }
-{
-    if at % 512 == 509 {
-        return at + 9;
-    }
-    at + 1
-}
 
 // Reads e edges from offset `from` on.
 fn read_edges(

@@ -50,13 +50,16 @@ three-out f off h = record {
   third = sym (List·getD-eq-default f 0 {n = placeOf (off + 2)} (omega arith));
 }
 
--- those that one block holds stand side by side
-pub three-side : (f : List ℕ) (off : ℕ) → off % 504 < 502
-    → ThreeAt f off (record { first = getD f (placeOf off) 0; second = getD f (placeOf off + 1) 0; third = getD f (placeOf off + 2) 0 })
-three-side f off h =
-    let e : placeOf off + 1 ≡ placeOf (off + 1) = omega arith in
-    let g : placeOf off + 2 ≡ placeOf (off + 2) = omega arith in
-    record { first = refl; second = ap (λ (i : ℕ). getD f i 0) e; third = ap (λ (i : ℕ). getD f i 0) g }
+-- each is read at its place
+pub three-read : (f : List ℕ) (off p q s a b c : ℕ) → p ≡ placeOf off → q ≡ placeOf (off + 1) → s ≡ placeOf (off + 1 + 1)
+    → a ≡ getD f p 0 → b ≡ getD f q 0 → c ≡ getD f s 0 → ThreeAt f off (record { first = a; second = b; third = c })
+three-read f off p q s a b c e g h x y z =
+    let l : placeOf (off + 1 + 1) ≡ placeOf (off + 2) = omega arith in
+    record {
+      first = x ∙ ap (λ (i : ℕ). getD f i 0) e;
+      second = y ∙ ap (λ (i : ℕ). getD f i 0) g;
+      third = z ∙ ap (λ (i : ℕ). getD f i 0) (h ∙ l);
+    }
 
 -- one number is below another or not
 pub lt-or-ge : (a b : ℕ) → (a < b) ⊎ (b ≤ a)

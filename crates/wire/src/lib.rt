@@ -16,6 +16,8 @@ pub use answer::put_three;
 pub use answer::put_word;
 pub use answer::zero;
 pub use check::check_file;
+pub use payload::byte_at;
+pub use payload::next_place;
 pub use payload::payload_byte;
 pub use payload::payload_three;
 pub use payload::payload_word;

@@ -1,7 +1,7 @@
 // A payload read where it stands in the file: 504 bytes of each block, after its head.
 ghost use mathlib.Core.Path.{_≡_};
-ghost use Prim.Native.Nat.{_<_};
-ghost use lib.ListN.{getD, length};
+ghost use Prim.Native.Nat.{ℕ, _+_, _<_};
+ghost use lib.ListN.{getD};
 ghost use Rattle.wire.specs.Payload.{placeOf, wordAt, ThreeAt};
 use crate::Three;
 
@@ -30,22 +30,28 @@ pub fn payload_word(file: &[u8], off: usize) -> usize
     0
 }
 
-// Three bytes of the payload from `off` on, one by one.
-fn three_apart(file: &[u8], off: usize) -> Three
-    requires { ⌜ off < length (now file) ⌝ }
-    ensures { λ r. ⌜ ThreeAt (now (file .entry)) off r ⌝ }
+// Byte `at` of the file; 0 past its end.
+pub fn byte_at(file: &[u8], at: usize) -> u8
+    ensures { λ r. ⌜ r ≡ getD (now (file .entry)) at 0 ⌝ }
 {
-    let a = payload_byte(file, off);
-    let b = payload_byte(file, off + 1);
-    let c = payload_byte(file, off + 2);
-    Three {
-        first: a,
-        second: b,
-        third: c,
+    if at < file.len() {
+        return file[at];
     }
+    0
 }
 
-// Three bytes of the payload from `off` on, as those of a move: at once where one block and the file have all three.
+// Where the next payload byte stands: a block's last is its byte 509, and the next block's first is its byte 6.
+pub fn next_place(at: usize) -> usize
+    requires { ⌜ at < 13835058055282163712 ⌝ }
+    ensures { λ r. ⌜ ((off : ℕ) → at ≡ placeOf off → r ≡ placeOf (off + 1)) ⌝ }
+{
+    if at % 512 == 509 {
+        return at + 9;
+    }
+    at + 1
+}
+
+// Three bytes of the payload from `off` on, as those of a move: one division for the three.
 pub fn payload_three(file: &[u8], off: usize) -> Three
     ensures { λ r. ⌜ ThreeAt (now (file .entry)) off r ⌝ }
 {
@@ -56,17 +62,12 @@ pub fn payload_three(file: &[u8], off: usize) -> Three
             third: 0,
         };
     }
-    let within = off % 504;
-    if within > 501 {
-        return three_apart(file, off);
-    }
-    let at = (off / 504) * 512 + 6 + within;
-    if file.len() <= at + 2 {
-        return three_apart(file, off);
-    }
-    let a = file[at];
-    let b = file[at + 1];
-    let c = file[at + 2];
+    let at = off + off / 504 * 8 + 6;
+    let next = next_place(at);
+    let last = next_place(next);
+    let a = byte_at(file, at);
+    let b = byte_at(file, next);
+    let c = byte_at(file, last);
     Three {
         first: a,
         second: b,

@@ -2,8 +2,8 @@ use borrow.Author.Needs.{needs}
 use Prim.Native.Nat.{_-_}
 use mathlib.Core.Path.{sym}
 use lib.ListN.{List·getD-eq-default}
-use Rattle.layout.proofs.edges.byte_at.Statement.{statement}
-use Rattle.layout.proofs.edges.byte_at.Tie as tie
+use Rattle.wire.proofs.payload.byte_at.Statement.{statement}
+use Rattle.wire.proofs.payload.byte_at.Tie as tie
 
 shared-slice-read-result : tie.Need-shared-slice-read-result
 shared-slice-read-result c = search needs
