@@ -6,9 +6,9 @@ use mathlib.Core.List.{List, [], _∷_, _++_, append-nil}
 use native.Mathlib.Numerals.{add-one}
 use native.Mathlib.Omega.{arith}
 use native.Mathlib.Decide.{decLt, ℕ-discrete}
-use lib.ListN.{length, getD, take, drop, drop-of-length-le}
+use lib.ListN.{length, getD, take, drop, drop-of-length-le, length-take}
 use lib.Dec.{leb, ltb}
-use lib.Seq.{take-suc, take-all}
+use lib.Seq.{take-suc, take-all, drop-append-le, length-take-le}
 use borrow.Author.Tests.{lt-ltb, le-ltb, le-leb, lt-leb, eq-eqb, ne-eqb}
 use Rattle.spec.specs.Outcome.{_&&_, member, indexOf, sameList}
 use Rattle.spec.specs.Arrangement.{Arrangement, order, lastNamed}
@@ -290,38 +290,47 @@ last-robot : (r : ℕ) (l : List ℕ) → (r ≡ 255 → ⊥) → lastNamed (l +
 unfolding order
 last-robot r l n = last-order (l ++ suc r ∷ []) ∙ ap lastOf (order-append l (suc r ∷ [])) ∙ last-snoc (order l) r n
 
-module _ (s : meaning.State) (vs : List ℕ) where
+module _ (s : meaning.State) (vs : List ℕ) (from : ℕ) where
+  -- the cells from place `from` to before place k
+  abbrev span : ℕ → List ℕ
+  span k = drop from (take k (meaning.arrangementOf s vs))
+
   -- one place more
-  one-further : (k : ℕ) → k < length vs → take (k + 1) (meaning.arrangementOf s vs)
-      ≡ take k (meaning.arrangementOf s vs) ++ meaning.cellOf (meaning.robotOn s (getD vs k 0)) ∷ []
-  one-further k h =
-      ap (λ (n : ℕ). take n (meaning.arrangementOf s vs)) (add-one k)
-      ∙ take-suc (meaning.arrangementOf s vs) k 0 (omega (arith, arrangement-length s vs))
-      ∙ ap (λ (x : ℕ). take k (meaning.arrangementOf s vs) ++ x ∷ []) (arrangement-at s vs k h)
+  one-further : (k : ℕ) → from ≤ k → k < length vs → span (k + 1) ≡ span k ++ meaning.cellOf (meaning.robotOn s (getD vs k 0)) ∷ []
+  one-further k f h =
+      let l : length (meaning.arrangementOf s vs) ≡ length vs = arrangement-length s vs in
+      ap (λ (n : ℕ). span n) (add-one k)
+      ∙ ap (drop from) (take-suc (meaning.arrangementOf s vs) k 0 (omega arith) ∙ ap (λ (x : ℕ). take k (meaning.arrangementOf s vs) ++ x ∷ []) (arrangement-at s vs k h))
+      ∙ drop-append-le from (take k (meaning.arrangementOf s vs)) _ (omega (arith, length-take-le k (meaning.arrangementOf s vs) (omega arith)))
 
   -- a robot stands on the place before
-  pub behind-robot : (k r : ℕ) → k < length vs → r ≡ meaning.robotOn s (getD vs k 0) → (r ≡ 255 → ⊥)
-      → r ≡ lastNamed (take (k + 1) (meaning.arrangementOf s vs))
-  behind-robot k r h e n =
-      sym (last-robot r (take k (meaning.arrangementOf s vs)) n)
-      ∙ ap (λ (x : ℕ). lastNamed (take k (meaning.arrangementOf s vs) ++ x ∷ [])) (sym (cell-of n) ∙ ap meaning.cellOf e)
-      ∙ ap lastNamed (sym (one-further k h))
+  pub behind-robot : (k r : ℕ) → from ≤ k → k < length vs → r ≡ meaning.robotOn s (getD vs k 0) → (r ≡ 255 → ⊥) → r ≡ lastNamed (span (k + 1))
+  behind-robot k r f h e n =
+      sym (last-robot r (span k) n)
+      ∙ ap (λ (x : ℕ). lastNamed (span k ++ x ∷ [])) (sym (cell-of n) ∙ ap meaning.cellOf e)
+      ∙ ap lastNamed (sym (one-further k f h))
 
   -- none stands there
-  pub behind-empty : (k r : ℕ) → k < length vs → r ≡ meaning.robotOn s (getD vs k 0) → r ≡ 255
-      → lastNamed (take k (meaning.arrangementOf s vs)) ≡ lastNamed (take (k + 1) (meaning.arrangementOf s vs))
-  behind-empty k r h e n =
-      sym (last-empty (take k (meaning.arrangementOf s vs)))
-      ∙ ap (λ (x : ℕ). lastNamed (take k (meaning.arrangementOf s vs) ++ x ∷ [])) (sym (cell-none n) ∙ ap meaning.cellOf e)
-      ∙ ap lastNamed (sym (one-further k h))
+  pub behind-empty : (k r : ℕ) → from ≤ k → k < length vs → r ≡ meaning.robotOn s (getD vs k 0) → r ≡ 255 → lastNamed (span k) ≡ lastNamed (span (k + 1))
+  behind-empty k r f h e n =
+      sym (last-empty (span k))
+      ∙ ap (λ (x : ℕ). lastNamed (span k ++ x ∷ [])) (sym (cell-none n) ∙ ap meaning.cellOf e)
+      ∙ ap lastNamed (sym (one-further k f h))
+
+  -- no place is left
+  pub behind-none : (k : ℕ) → k ≤ from → 255 ≡ lastNamed (span k)
+  unfolding lastNamed
+  behind-none k h =
+      let l = length-take k (meaning.arrangementOf s vs) in
+      ap lastNamed (sym (drop-of-length-le (take k (meaning.arrangementOf s vs)) {i = from} (omega arith)))
 
   -- places past the end are none
-  pub behind-least : (j k : ℕ) → k ≡ min j (length vs) → lastNamed (take k (meaning.arrangementOf s vs)) ≡ lastNamed (take j (meaning.arrangementOf s vs))
+  pub behind-least : (j k : ℕ) → k ≡ min j (length vs) → lastNamed (span k) ≡ lastNamed (span j)
   behind-least j k e = at (decLt j (length vs))
     where
-      at : Dec (j < length vs) → lastNamed (take k (meaning.arrangementOf s vs)) ≡ lastNamed (take j (meaning.arrangementOf s vs))
+      at : Dec (j < length vs) → lastNamed (span k) ≡ lastNamed (span j)
       at (yes h) = let d : k ≡ j = omega arith in rw d
       at (no h) =
           let x : length (meaning.arrangementOf s vs) ≤ j = omega (arith, arrangement-length s vs) in
           let y : length (meaning.arrangementOf s vs) ≤ k = omega (arith, arrangement-length s vs) in
-          ap lastNamed (take-all k _ y ∙ sym (take-all j _ x))
+          ap (λ (l : List ℕ). lastNamed (drop from l)) (take-all k _ y ∙ sym (take-all j _ x))

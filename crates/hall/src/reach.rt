@@ -1,13 +1,15 @@
 // What a hall can reach: its robots keep their order, so that what counts is who stands below and above.
 ghost use mathlib.Core.Path.{_≡_};
-ghost use lib.ListN.{take};
+ghost use lib.ListN.{take, drop};
 ghost use Rattle.spec.specs.Arrangement.{lastNamed};
 ghost use Rattle.spec.specs.State.{arrangementOf};
 ghost use Rattle.spec.specs.Hall.{room, hallCanLeave, hallCanEnter, hallCanEnd};
 ghost use Rattle.motion.specs.States.{stateOf};
+ghost use Rattle.motion.specs.Tables.{onVertices};
 ghost use Rattle.hall.specs.Reach.{Counted, NextIs};
 use crate::least;
 use motion::State;
+use motion::robot_in;
 use motion::robot_on;
 use numbering::Robot;
 use numbering::Vertex;
@@ -120,16 +122,16 @@ pub fn can_end(s: State, zone: &[u8], goals: State) -> bool
     zone.len() <= k
 }
 
-// The nearest robot at a place lower than j, as a step names it: 255 if none.
-pub fn behind(s: State, zone: &[u8], j: usize) -> u8
-    ensures { λ r. ⌜ r ≡ lastNamed (take j (arrangementOf (stateOf s) (now (zone .entry)))) ⌝ }
+// The nearest robot at a place lower than j and not lower than `from`, as a step names it: 255 if none.
+pub fn behind(robots: &[u8], zone: &[u8], from: usize, j: usize) -> u8
+    ensures { λ r. ⌜ r ≡ lastNamed (drop from (take j (arrangementOf (onVertices (now (robots .entry))) (now (zone .entry))))) ⌝ }
 {
     let mut k = least(j, zone.len());
-    while 0 < k {
+    while from < k {
         k -= 1;
-        let r = robot_on(s, Vertex(zone[k]));
-        if r.0 != 255 {
-            return r.0;
+        let r = robot_in(robots, Vertex(zone[k]));
+        if r != 255 {
+            return r;
         }
     }
     255

@@ -1,26 +1,15 @@
 // The edges of a map, entered into the rows.
 use crate::MapFault;
+use wire::next_place;
 ghost use mathlib.Core.Path.{_≡_};
 ghost use Prim.Native.Nat.{ℕ, _+_, _-_, _/_, _<_, _≤_, min};
 ghost use lib.Dec.{ltb};
-ghost use Rattle.wire.specs.Payload.{placeOf};
 ghost use Rattle.layout.specs.Edges.{PlacesAre, EdgesAre, CountAt, EdgesFound};
 
 // Where the second byte of a pair of payload bytes stands, and where the next pair begins.
 pub struct Pair {
     pub behind: usize,
     pub next: usize,
-}
-
-// Where the next payload byte stands: a block's last is its byte 509, and the next block's first is its byte 6.
-fn next_place(at: usize) -> usize
-    requires { ⌜ at ≤ 1000000 ⌝ }
-    ensures { λ r. ⌜ (at < r) × (r ≤ at + 9) × ((off : ℕ) → at ≡ placeOf off → r ≡ placeOf (off + 1)) ⌝ }
-{
-    if at % 512 == 509 {
-        return at + 9;
-    }
-    at + 1
 }
 
 // The places after `at`: one test where the pair and the next one's first byte stand in one block.

@@ -5,6 +5,7 @@ ghost use lib.ListN.{length, set, getD, take};
 ghost use Rattle.spec.specs.Arrangement.{mv, seek, apply};
 ghost use Rattle.spec.specs.State.{robotOn, arrangementOf, acrossMove, cellOf};
 ghost use Rattle.motion.specs.States.{stateOf, stood, movedBy};
+ghost use Rattle.motion.specs.Tables.{tabled};
 ghost use Rattle.motion.specs.World.{worldOf, made, laidMove, oneMore};
 ghost use Rattle.motion.specs.Cells.{overlaid};
 
@@ -104,6 +105,63 @@ pub fn vertex_of(s: State, r: Robot) -> Vertex
         return s.vertices[i];
     }
     Vertex(255)
+}
+
+// The robot on each vertex, as plain numbers in a lent table.
+pub fn robots_of(s: State, robots: &mut [u8])
+    requires { ⌜ length (now robots) ≡ 128 ⌝ }
+    ensures { λ q. ⌜ now (robots .exit) ≡ stateOf s .robots ⌝ }
+{
+    let mut i: usize = 0;
+    while i < 128 {
+        let r = s.robots[i];
+        robots[i] = r.0;
+        i += 1;
+    }
+}
+
+// The vertex of each robot, as plain numbers in a lent table.
+pub fn vertices_of(s: State, vertices: &mut [u8])
+    requires { ⌜ length (now vertices) ≡ 64 ⌝ }
+    ensures { λ q. ⌜ now (vertices .exit) ≡ stateOf s .vertices ⌝ }
+{
+    let mut i: usize = 0;
+    while i < 64 {
+        let v = s.vertices[i];
+        vertices[i] = v.0;
+        i += 1;
+    }
+}
+
+// Robot r goes from one vertex to another, in the lent tables of a state.
+pub fn shift(robots: &mut [u8], vertices: &mut [u8], r: Robot, from: Vertex, to: Vertex)
+    ensures { λ q. ⌜ tabled (now (robots .exit)) (now (vertices .exit)) ≡ movedBy (tabled (now (robots .entry)) (now (vertices .entry))) (mv (r .0) (from .0) (to .0)) ⌝ }
+{
+    put_cell(robots, from.0 as usize, 255);
+    put_cell(robots, to.0 as usize, r.0);
+    put_cell(vertices, r.0 as usize, to.0);
+}
+
+// The robot on a vertex, in the lent table.
+pub fn robot_in(robots: &[u8], v: Vertex) -> u8
+    ensures { λ r. ⌜ r ≡ getD (now (robots .entry)) (v .0) 255 ⌝ }
+{
+    let i = v.0 as usize;
+    if i < robots.len() {
+        return robots[i];
+    }
+    255
+}
+
+// The vertex of a robot, in the lent table.
+pub fn vertex_in(vertices: &[u8], r: Robot) -> u8
+    ensures { λ v. ⌜ v ≡ getD (now (vertices .entry)) (r .0) 255 ⌝ }
+{
+    let i = r.0 as usize;
+    if i < vertices.len() {
+        return vertices[i];
+    }
+    255
 }
 
 // The bytes of the n-th move.

@@ -18,16 +18,13 @@ use Rattle.spec.specs.Arrangement.{Move, mv}
 use Rattle.spec.specs.State as meaning
 use Rattle.spec.specs.Run.{countOf, movesFrom, onGoals, checkedMoves}
 use Rattle.adjacency.specs.Rows.{Shows, bitAt, shows-joined}
-use Rattle.motion.specs.States.{stateOf}
 use Rattle.wire.specs.Payload.{payload, placeOf, held-length, held-byte, held-word}
 use Rattle.wire.specs.Payload as wire
-use Rattle.motion.specs.declared.State.{State}
 use Rattle.replay.specs.Moves.{moveBy, movesBy, bytesOf, fileBytes, moveTests, Replayed, replay-passed, replay-cut, replay-failed, replay-end}
 use Rattle.replay.specs.declared.Fault.{Fault}
 use Rattle.replay.specs.declared.Fault.the-variants as fault
 use Rattle.replay.specs.declared.MoveList.{MoveList}
 use Rattle.replay.specs.declared.MoveList.the-variants as list
-use Rattle.replay.specs.declared.Replay.{Replay}
 
 -- a fault of move i: 46, "cart not below k, or point not below n"; 47, "no track"; 48, "cart not at from, or to taken"
 abbrev pub faultAt : ℕ → Fault → Outcome (Unit {0})
@@ -49,10 +46,10 @@ moveListOf p (list.Edge i) = refuse 47 i
 moveListOf p (list.Standing i) = refuse 48 i
 moveListOf p (list.Goal r) = refuse 51 r
 
--- what a replay of n moves of a payload from state s comes to
-pub record ReplayOf (m : Map) (k : ℕ) (p : List ℕ) (n : ℕ) (s : meaning.State) (q : Replay) : Type 0 where
-  pub answer : moveListOf p (q .list) ≡ movesFrom m k p n 0 s
-  pub reached : (j : ℕ) → q .list ≡ list.Legal j → (j ≡ n) × (stateOf (q .state) ≡ meaning.movedAll s (movesBy (bytesOf p) 0 n))
+-- what a replay of n moves of a payload from state s comes to: the answer, and in state t where all are legal
+pub record ReplayOf (m : Map) (k : ℕ) (p : List ℕ) (n : ℕ) (s : meaning.State) (q : MoveList) (t : meaning.State) : Type 0 where
+  pub answer : moveListOf p q ≡ movesFrom m k p n 0 s
+  pub reached : (j : ℕ) → q ≡ list.Legal j → (j ≡ n) × (t ≡ meaning.movedAll s (movesBy (bytesOf p) 0 n))
 
 -- ---- the tests of a move
 
@@ -153,49 +150,46 @@ goals-all vs gs i k h l = rw (drop-of-length-le (take k gs) {i = i} (omega (arit
 -- ---- the replay of a file's moves
 
 module _ (m : Map) (k : ℕ) (f : List ℕ) (len n : ℕ) (most : len ≤ length f / 512 * 504) (s₀ : meaning.State) where
-  -- the move that the code read is the payload's
-  move-held : (i r u v : ℕ) → 5 + i * 3 ≤ len → r ≡ fileBytes f (2 + i * 3) → u ≡ fileBytes f (3 + i * 3) → v ≡ fileBytes f (4 + i * 3)
-      → mv r u v ≡ moveBy (bytesOf (take len (payload f))) i
-  move-held i r u v h er eu ev =
-      rw (held-byte f len most (2 + i * 3) (omega arith), held-byte f len most (3 + i * 3) (omega arith), held-byte f len most (4 + i * 3) (omega arith), er, eu, ev)
+  -- the file's move is the payload's
+  move-held : (i : ℕ) (x : Move) → 5 + i * 3 ≤ len → x ≡ moveBy (fileBytes f) i → x ≡ moveBy (bytesOf (take len (payload f))) i
+  move-held i x h e =
+      e ∙ rw (held-byte f len most (2 + i * 3) (omega arith), held-byte f len most (3 + i * 3) (omega arith), held-byte f len most (4 + i * 3) (omega arith))
 
   module _ (i : ℕ) (s : meaning.State) (d : Replayed m k (take len (payload f)) n s₀ i s) where
     -- the payload ends before move i does
-    pub replay-short : (t : State) → i < n → len < 5 + i * 3 → ReplayOf m k (take len (payload f)) n s₀ (record { list = list.Short i; state = t })
+    pub replay-short : (t : meaning.State) → i < n → len < 5 + i * 3 → ReplayOf m k (take len (payload f)) n s₀ (list.Short i) t
     replay-short t h l = record {
       answer = sym (replay-cut m k (take len (payload f)) n s₀ i s d h (omega (arith, held-length f len most)));
       reached = λ j e. let z : _≡_ {A = ℕ} 0 1 = cc in absurd (omega arith);
     }
 
     -- move i fails a test
-    pub replay-refused : (q : Replay) (a r u v : ℕ) → i < n → 5 + i * 3 ≤ len
-        → r ≡ fileBytes f (2 + i * 3) → u ≡ fileBytes f (3 + i * 3) → v ≡ fileBytes f (4 + i * 3)
-        → refuse a i ≡ moveTests m k s (mv r u v) i → moveListOf (take len (payload f)) (q .list) ≡ refuse a i → ((j : ℕ) → q .list ≡ list.Legal j → ⊥)
-        → ReplayOf m k (take len (payload f)) n s₀ q
-    replay-refused q a r u v h l er eu ev t e z = record {
+    pub replay-refused : (q : MoveList) (t : meaning.State) (a : ℕ) (x : Move) → i < n → 5 + i * 3 ≤ len → x ≡ moveBy (fileBytes f) i
+        → refuse a i ≡ moveTests m k s x i → moveListOf (take len (payload f)) q ≡ refuse a i → ((j : ℕ) → q ≡ list.Legal j → ⊥)
+        → ReplayOf m k (take len (payload f)) n s₀ q t
+    replay-refused q t a x h l ex y e z = record {
       answer =
           e
           ∙ sym (replay-failed m k (take len (payload f)) n s₀ i s d a h (omega (arith, held-length f len most))
-          (sym (t ∙ ap (λ (x : Move). moveTests m k s x i) (move-held i r u v l er eu ev))));
-      reached = λ j y. absurd (z j y);
+          (sym (y ∙ ap (λ (w : Move). moveTests m k s w i) (move-held i x l ex))));
+      reached = λ j w. absurd (z j w);
     }
 
     -- move i passes, and is made
-    pub replay-next : (t : meaning.State) (r u v : ℕ) → i < n → 5 + i * 3 ≤ len
-        → r ≡ fileBytes f (2 + i * 3) → u ≡ fileBytes f (3 + i * 3) → v ≡ fileBytes f (4 + i * 3)
-        → ok tt ≡ moveTests m k s (mv r u v) i → t ≡ meaning.moved s (mv r u v) → Replayed m k (take len (payload f)) n s₀ (i + 1) t
-    replay-next t r u v h l er eu ev y e =
-        let x : mv r u v ≡ moveBy (bytesOf (take len (payload f))) i = move-held i r u v l er eu ev in
-        rw (e, x)
-        (replay-passed m k (take len (payload f)) n s₀ i s d h (omega (arith, held-length f len most)) (sym (y ∙ ap (λ (z : Move). moveTests m k s z i) x)))
+    pub replay-next : (t : meaning.State) (x : Move) → i < n → 5 + i * 3 ≤ len → x ≡ moveBy (fileBytes f) i
+        → ok tt ≡ moveTests m k s x i → t ≡ meaning.moved s x → Replayed m k (take len (payload f)) n s₀ (i + 1) t
+    replay-next t x h l ex y e =
+        let w : x ≡ moveBy (bytesOf (take len (payload f))) i = move-held i x l ex in
+        rw (e, w)
+        (replay-passed m k (take len (payload f)) n s₀ i s d h (omega (arith, held-length f len most)) (sym (y ∙ ap (λ (z : Move). moveTests m k s z i) w)))
 
     -- all moves passed
-    pub replay-all : (t : State) → n ≤ i → stateOf t ≡ s → ReplayOf m k (take len (payload f)) n s₀ (record { list = list.Legal n; state = t })
-    replay-all t h e = record {
+    pub replay-all : n ≤ i → ReplayOf m k (take len (payload f)) n s₀ (list.Legal n) s
+    replay-all h = record {
       answer = sym (replay-end m k (take len (payload f)) n s₀ i s d h);
       reached = λ j y. (
         let z : _≡_ {A = ℕ} j n = cc in z,
-        let z : i ≡ n = omega (arith, d .within) in e ∙ d .reached ∙ ap (λ (x : ℕ). meaning.movedAll s₀ (movesBy (bytesOf (take len (payload f))) 0 x)) z,
+        let z : i ≡ n = omega (arith, d .within) in d .reached ∙ ap (λ (x : ℕ). meaning.movedAll s₀ (movesBy (bytesOf (take len (payload f))) 0 x)) z,
       );
     }
 
@@ -294,12 +288,12 @@ pub all-moves : (p : List ℕ) (l : MoveList) (j n : ℕ) (o : Outcome (List Mov
 all-moves p l j n o d e h = ap (λ (x : ℕ). ok (movesBy (bytesOf p) 0 x)) (sym d) ∙ legal-moves p l j o e h
 
 -- the goals that are left to test, in the state that the replay reached
-pub goals-from : (m : Map) (pl : Placing) (k n : ℕ) (p starts goals : List ℕ) (s : meaning.State) (q : Replay) (o : Outcome (Unit {0}))
-    → pl .starts ≡ take k starts → pl .goals ≡ take k goals → s ≡ meaning.standing (take k starts) → ReplayOf m k p n s q → (j : ℕ) → q .list ≡ list.Legal j
-    → o ≡ onGoals 0 (stateOf (q .state) .vertices) (take k goals)
+pub goals-from : (m : Map) (pl : Placing) (k n : ℕ) (p starts goals : List ℕ) (s : meaning.State) (q : MoveList) (t : meaning.State) (o : Outcome (Unit {0}))
+    → pl .starts ≡ take k starts → pl .goals ≡ take k goals → s ≡ meaning.standing (take k starts) → ReplayOf m k p n s q t → (j : ℕ) → q ≡ list.Legal j
+    → o ≡ onGoals 0 (t .vertices) (take k goals)
     → o ≡ onGoals 0 (meaning.movedAll (meaning.standing (pl .starts)) (movesBy (bytesOf p) 0 n) .vertices) (pl .goals)
-goals-from m pl k n p starts goals s q o es eg ess d j l e =
-    let y : stateOf (q .state) ≡ meaning.movedAll (meaning.standing (pl .starts)) (movesBy (bytesOf p) 0 n) =
+goals-from m pl k n p starts goals s q t o es eg ess d j l e =
+    let y : t ≡ meaning.movedAll (meaning.standing (pl .starts)) (movesBy (bytesOf p) 0 n) =
     d .reached j l .1 ∙ ap (λ (x : meaning.State). meaning.movedAll x (movesBy (bytesOf p) 0 n)) (ess ∙ ap meaning.standing (sym es)) in
     rw (eg, ← y) e
 

@@ -5,8 +5,8 @@ use native.Mathlib.Omega.{arith}
 use native.Mathlib.Decide.{ℕ-discrete}
 use mathlib.Core.Bool.{Bool, true, false}
 use mathlib.Core.List.{List, [], _∷_, _++_}
-use lib.ListN.{length, getD, take, drop, length-append, length-drop}
-use lib.Seq.{length-take-le}
+use lib.ListN.{length, getD, take, drop, set, length-set, length-append, length-drop}
+use lib.Seq.{length-take-le, set-out}
 use lib.Dec.{eqb, leb}
 use borrow.Author.Tests.{eq-eqb, ne-eqb, le-leb, lt-leb}
 use Rattle.spec.specs.Outcome.{_&&_, indexOf}
@@ -20,6 +20,7 @@ use Rattle.layout.specs.declared.MapRead.{MapRead}
 use Rattle.layout.specs.Map.{MapHeld}
 use Rattle.layout.specs.Tables.{entryOf, entry-is}
 use Rattle.wire.specs.Laid.{laidAll, laid-length, laid-append}
+use Rattle.motion.specs.Tables.{tabled, onVertices}
 use Rattle.replay.specs.declared.Drawn.{Drawn}
 use Rattle.replay.specs.Follow.{followed, stepFrom, follow-length}
 use Rattle.replay.specs.Moves.{moveBy, movesBy, moves-next, moves-done}
@@ -102,6 +103,11 @@ stepInto s r u v z =
 step-into : (m : Map) (s : State) (r u v : ℕ) → stepInto s r u v (zoneAt m (zoneOf m v)) ≡ oneStep (stepOf m s (mv r u v))
 unfolding stepFrom stepOf followed
 step-into m s r u v = refl
+
+-- the robots by vertex are all that a step names
+step-alone : (m : Map) (robots vertices : List ℕ) (x : Move) → stepOf m (onVertices robots) x ≡ stepOf m (tabled robots vertices) x
+unfolding stepOf arrangementOf
+step-alone m robots vertices x = refl
 
 -- the bytes that are laid are the step's
 step-is : (m : Map) (s : State) (r u v kind j behind : ℕ) (vs : List ℕ) (filled : Bool) → zoneAt m (zoneOf m v) ≡ record { kind = kind; vertices = vs }
@@ -196,6 +202,13 @@ module _ (map : MapRead) (m : Map) (h : MapHeld map m) (g : Accepted m) (u v : �
             crossing = λ z. (refl, eby ∙ ap (λ (l : List ℕ). d .bytes + length l) w, eo ∙ ap (laidAll o (d .bytes)) w);
           }
 
+-- a state in which the robots stand so draws the same
+pub drawn-same : (m : Map) (robots vertices : List ℕ) (s : State) (x : Move) (d : Drawn) (o : List ℕ) (q : Drawn) (o′ : List ℕ) → tabled robots vertices ≡ s
+    → MoveDrawn m (onVertices robots) x d o q o′ → MoveDrawn m s x d o q o′
+drawn-same m robots vertices s x d o q o′ e y =
+    let w : stepOf m s x ≡ stepOf m (onVertices robots) x = ap (λ (t : State). stepOf m t x) (sym e) ∙ sym (step-alone m robots vertices x) in
+    record { inside = y .inside; crossing = λ z. rw w (y .crossing z) }
+
 step-most : (s : State) (vs : List ℕ) (j r u v behind : ℕ) (filled : Bool) → length (stepFrom s vs j r u v behind filled) ≤ 4 + length vs
 unfolding stepFrom
 step-most s vs j r u v behind true = omega (arith, follow-length s vs j r)
@@ -211,6 +224,18 @@ step-near s vs j r u v behind filled bytes off e h = omega (arith, step-most s v
 -- the moves end on vertices of the map
 abbrev pub EndsOn : Map → (ℕ → ℕ) → ℕ → Type 0
 EndsOn m byte n = (i : ℕ) → i < n → moveBy byte i .to < m .size
+
+-- robot 255 goes from no vertex to none: no move
+unmoved : (robots vertices : List ℕ) → length robots ≤ 255 → length vertices ≤ 255 → moved (tabled robots vertices) (mv 255 255 255) ≡ tabled robots vertices
+unfolding moved
+unmoved robots vertices h g =
+    let l : length (set robots 255 255) ≡ length robots = length-set robots 255 255 in
+    ap₂ tabled (set-out (set robots 255 255) 255 255 (omega arith) ∙ set-out robots 255 255 h) (set-out vertices 255 255 g)
+
+-- nothing is drawn yet, and no move is to be made
+pub drawing-first : (m : Map) (byte : ℕ → ℕ) (n : ℕ) (robots vertices o : List ℕ) → length robots ≤ 255 → length vertices ≤ 255
+    → Drawing m byte n (tabled robots vertices) o 0 (moved (tabled robots vertices) (mv 255 255 255)) 0 2 o
+drawing-first m byte n robots vertices o h g = rw (unmoved robots vertices h g) (drawing-start m byte n (tabled robots vertices) o)
 
 -- a move's drawing takes the whole one step on
 pub drawing-next : (m : Map) (byte : ℕ → ℕ) (n : ℕ) (s₀ : State) (o₀ : List ℕ) (i : ℕ) (s t : State) (d q : Drawn) (o o′ : List ℕ) (x : Move)
@@ -232,9 +257,9 @@ pub record AllDrawn (m : Map) (byte : ℕ → ℕ) (n : ℕ) (s : State) (o : Li
   pub size : q .bytes ≡ 2 + length (stepBytes (drawnSteps m s (movesBy byte 0 n)))
   pub buffer : o′ ≡ laidAll o 2 (stepBytes (drawnSteps m s (movesBy byte 0 n)))
 
-pub all-drawn : (m : Map) (byte : ℕ → ℕ) (n : ℕ) (s₀ : State) (o₀ : List ℕ) (i : ℕ) (s : State) (q : Drawn) (o : List ℕ)
-    → Drawing m byte n s₀ o₀ i s (q .steps) (q .bytes) o → n ≤ i → AllDrawn m byte n s₀ o₀ q o
-all-drawn m byte n s₀ o₀ i s q o w h =
+pub all-drawn : (m : Map) (byte : ℕ → ℕ) (n : ℕ) (s₀ : State) (o₀ : List ℕ) (i : ℕ) (s : State) (q : Drawn) (o : List ℕ) (s₁ : State)
+    → Drawing m byte n s₀ o₀ i s (q .steps) (q .bytes) o → n ≤ i → s₀ ≡ s₁ → AllDrawn m byte n s₁ o₀ q o
+all-drawn m byte n s₀ o₀ i s q o s₁ w h d =
     let z = drawing-end m byte n s₀ o₀ i s (q .steps) (q .bytes) o w h in
     let e : n - 0 ≡ n = omega arith in
-    record { count = rw e at (z .0); size = rw e at (z .1); buffer = rw e at (z .2) }
+    rw (← d) (record { count = rw e at (z .0); size = rw e at (z .1); buffer = rw e at (z .2) })

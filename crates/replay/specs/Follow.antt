@@ -113,15 +113,14 @@ module _ (s : State) (vs : List ℕ) (j r : ℕ) where
 unfoldable pub stepFrom : State → List ℕ → ℕ → ℕ → ℕ → ℕ → ℕ → Bool → List ℕ
 stepFrom s vs j r u v behind filled = r ∷ u ∷ v ∷ behind ∷ elim filled [ true ↦ followed s vs j r | false ↦ [] ]
 
-module _ (s : State) (vs : List ℕ) (j r u v behind off : ℕ) (o o₁ o₂ o₃ o₄ : List ℕ) (e₁ : o₁ ≡ laid o off r) (e₂ : o₂ ≡ laid o₁ (off + 1) u)
-    (e₃ : o₃ ≡ laid o₂ (off + 2) v) (e₄ : o₄ ≡ laid o₃ (off + 3) behind) where
+module _ (s : State) (vs : List ℕ) (j r u v behind off : ℕ) (o o₃ o₄ : List ℕ) (e₃ : o₃ ≡ laidAll o off (r ∷ u ∷ v ∷ [])) (e₄ : o₄ ≡ laid o₃ (off + 3) behind) where
   -- the four bytes, and what follows them
   four-laid : (rest : List ℕ) → laidAll o₄ (off + 4) rest ≡ laidAll o off (r ∷ u ∷ v ∷ behind ∷ rest)
   four-laid rest =
       let a : off + 1 + 1 ≡ off + 2 = omega arith in
       let b : off + 2 + 1 ≡ off + 3 = omega arith in
       let d : off + 3 + 1 ≡ off + 4 = omega arith in
-      rw (e₄, e₃, e₂, e₁, a, b, d)
+      rw (e₄, e₃, a, b, d)
 
   -- a step of four bytes
   pub step-short : (filled : Bool) → filled ≡ false

@@ -13,7 +13,11 @@ use Rattle.spec.specs.Layout.{Map, joined}
 use Rattle.spec.specs.Arrangement.{Move, mv}
 use Rattle.spec.specs.State.{State, robotOn, moved, movedAll}
 use Rattle.spec.specs.Run.{movesFrom}
-use Rattle.wire.specs.Payload.{placeOf}
+use Rattle.motion.specs.declared.State as code
+use Rattle.motion.specs.States.{stateOf}
+use Rattle.motion.specs.Tables.{tabled}
+use Rattle.wire.specs.Payload.{placeOf, ThreeAt}
+use Rattle.wire.specs.declared.Three.{Three}
 
 -- move i of a payload whose bytes are given by offset
 abbrev pub moveBy : (ℕ → ℕ) → ℕ → Move
@@ -35,6 +39,26 @@ fileBytes f off = getD f (placeOf off) 0
 -- the move that was read byte by byte
 pub move-of : (byte : ℕ → ℕ) (i r u v : ℕ) → r ≡ byte (2 + i * 3) → u ≡ byte (3 + i * 3) → v ≡ byte (4 + i * 3) → mv r u v ≡ moveBy byte i
 move-of byte i r u v er eu ev = rw (er, eu, ev)
+
+-- the bytes of move i, where they were read at once
+pub three-bytes : (f : List ℕ) (i : ℕ) (t : Three) → ThreeAt f (2 + i * 3) t
+    → (t .first ≡ fileBytes f (2 + i * 3)) × (t .second ≡ fileBytes f (3 + i * 3)) × (t .third ≡ fileBytes f (4 + i * 3))
+three-bytes f i t h =
+    let a : 2 + i * 3 + 1 ≡ 3 + i * 3 = omega arith in
+    let b : 2 + i * 3 + 2 ≡ 4 + i * 3 = omega arith in
+    (h .first, h .second ∙ ap (fileBytes f) a, h .third ∙ ap (fileBytes f) b)
+
+-- and the move that they are
+abbrev pub threeMove : Three → Move
+threeMove t = mv (t .first) (t .second) (t .third)
+
+pub three-move : (f : List ℕ) (i : ℕ) (t : Three) → ThreeAt f (2 + i * 3) t → threeMove t ≡ moveBy (fileBytes f) i
+three-move f i t h = let e = three-bytes f i t h in move-of (fileBytes f) i _ _ _ (e .0) (e .1) (e .2)
+
+-- a state's tables, lent, are the state
+pub lent-tables : (s : code.State) (robots vertices : List ℕ) (t : State) → robots ≡ stateOf s .robots → vertices ≡ stateOf s .vertices → stateOf s ≡ t
+    → tabled robots vertices ≡ t
+lent-tables s robots vertices t a b e = ap₂ tabled a b ∙ e
 
 -- the moves are as many as asked for
 pub moves-length : (byte : ℕ → ℕ) (i n : ℕ) → length (movesBy byte i n) ≡ n

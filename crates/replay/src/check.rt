@@ -1,25 +1,24 @@
 // Checking a move list against a map and a placing: each move in the state that the moves before it reach.
 ghost use mathlib.Core.Path.{_≡_};
 ghost use Prim.Native.Nat.{ℕ, _+_, _*_, _/_, _<_, _≤_};
+ghost use mathlib.Core.List.{List};
 ghost use lib.ListN.{length, take};
 ghost use Rattle.spec.specs.Layout.{Map, Placing};
 ghost use Rattle.spec.specs.Arrangement.{mv};
 ghost use Rattle.spec.specs.Run.{onGoals, checkedMoves};
 ghost use Rattle.adjacency.specs.Rows.{Shows};
 ghost use Rattle.wire.specs.Payload.{payload};
-ghost use Rattle.motion.specs.States.{stateOf};
+ghost use Rattle.motion.specs.Tables.{tabled};
 ghost use Rattle.replay.specs.Moves.{moveTests};
 ghost use Rattle.replay.specs.Check.{faultAt, offGoal, moveListOf, ReplayOf};
 use crate::Fault;
 use crate::MoveList;
-use crate::Replay;
-use motion::State;
 use numbering::Robot;
 use numbering::Vertex;
 
 // What is wrong with robot r's move from u to v, on a map of n vertices for k robots: 46, 47, 48.
-fn fault_of(s: State, rows: &[[u64; 2]; 128], n: usize, k: usize, r: u8, u: u8, v: u8) -> Fault
-    ensures { λ f. ⌜ ((m : Map) → m .size ≡ n → Shows (now (rows .entry)) (m .edges) → (i : ℕ) → faultAt i f ≡ moveTests m k (stateOf s) (mv r u v) i) ⌝ }
+fn fault_of(robots: &[u8], rows: &[[u64; 2]; 128], n: usize, k: usize, r: u8, u: u8, v: u8) -> Fault
+    ensures { λ f. ⌜ ((m : Map) → m .size ≡ n → Shows (now (rows .entry)) (m .edges) → (vs : List ℕ) (i : ℕ) → faultAt i f ≡ moveTests m k (tabled (now (robots .entry)) vs) (mv r u v) i) ⌝ }
 {
     if k <= r as usize {
         return Fault::Number;
@@ -33,26 +32,26 @@ fn fault_of(s: State, rows: &[[u64; 2]; 128], n: usize, k: usize, r: u8, u: u8, 
     if !adjacency::joined(rows, Vertex(u), Vertex(v)) {
         return Fault::Edge;
     }
-    let x = motion::robot_on(s, Vertex(u));
-    if x.0 != r {
+    let x = motion::robot_in(robots, Vertex(u));
+    if x != r {
         return Fault::Standing;
     }
-    let y = motion::robot_on(s, Vertex(v));
-    if y.0 != 255 {
+    let y = motion::robot_in(robots, Vertex(v));
+    if y != 255 {
         return Fault::Standing;
     }
     Fault::Nothing
 }
 
 // The lowest robot that is off its goal; k where there is none.
-fn off_goal(s: State, goals: [u8; 64], k: usize) -> usize
+fn off_goal(vertices: &[u8], goals: [u8; 64], k: usize) -> usize
     requires { ⌜ k ≤ 64 ⌝ }
-    ensures { λ r. ⌜ (r ≤ k) × (offGoal r k ≡ onGoals 0 (stateOf s .vertices) (take k goals)) ⌝ }
+    ensures { λ r. ⌜ (r ≤ k) × (offGoal r k ≡ onGoals 0 (now (vertices .entry)) (take k goals)) ⌝ }
 {
     let mut i: usize = 0;
     while i < k {
-        let v = motion::vertex_of(s, Robot(i as u8));
-        if v.0 != goals[i] {
+        let v = motion::vertex_in(vertices, Robot(i as u8));
+        if v != goals[i] {
             return i;
         }
         i += 1;
@@ -60,7 +59,7 @@ fn off_goal(s: State, goals: [u8; 64], k: usize) -> usize
     i
 }
 
-// Replays `count` moves from a state, as long as they are legal.
+// Replays `count` moves from the state in the lent tables, as long as they are legal.
 fn replay_moves(
     file: &[u8],
     len: usize,
@@ -68,52 +67,41 @@ fn replay_moves(
     rows: &[[u64; 2]; 128],
     n: usize,
     k: usize,
-    s: State,
-) -> Replay
+    robots: &mut [u8],
+    vertices: &mut [u8],
+) -> MoveList
     requires { ⌜ (len ≤ length (now file) / 512 * 504) × (count < 65536) ⌝ }
-    ensures { λ q. ⌜ ((m : Map) → m .size ≡ n → Shows (now (rows .entry)) (m .edges) → ReplayOf m k (take len (payload (now (file .entry)))) count (stateOf s) q) ⌝ }
+    ensures { λ q. ⌜ ((m : Map) → m .size ≡ n → Shows (now (rows .entry)) (m .edges) → ReplayOf m k (take len (payload (now (file .entry)))) count (tabled (now (robots .entry)) (now (vertices .entry))) q (tabled (now (robots .exit)) (now (vertices .exit)))) ⌝ }
 {
-    let mut t = s;
     let mut i: usize = 0;
     while i < count {
         let at = i * 3;
         if len < 5 + at {
-            return Replay {
-                list: MoveList::Short(i),
-                state: t,
-            };
+            return MoveList::Short(i);
         }
-        let r = wire::payload_byte(file, 2 + at);
-        let u = wire::payload_byte(file, 3 + at);
-        let v = wire::payload_byte(file, 4 + at);
-        match fault_of(t, rows, n, k, r, u, v) {
+        let x = wire::payload_three(file, 2 + at);
+        match fault_of(robots, rows, n, k, x.first, x.second, x.third) {
             Fault::Number => {
-                return Replay {
-                    list: MoveList::Number(i),
-                    state: t,
-                };
+                return MoveList::Number(i);
             }
             Fault::Edge => {
-                return Replay {
-                    list: MoveList::Edge(i),
-                    state: t,
-                };
+                return MoveList::Edge(i);
             }
             Fault::Standing => {
-                return Replay {
-                    list: MoveList::Standing(i),
-                    state: t,
-                };
+                return MoveList::Standing(i);
             }
             Fault::Nothing => {}
         }
-        t = motion::moved(t, Robot(r), Vertex(u), Vertex(v));
+        motion::shift(
+            robots,
+            vertices,
+            Robot(x.first),
+            Vertex(x.second),
+            Vertex(x.third),
+        );
         i += 1;
     }
-    Replay {
-        list: MoveList::Legal(count),
-        state: t,
-    }
+    MoveList::Legal(count)
 }
 
 // What the move list is whose payload, of `len` bytes, stands in a checked file.
@@ -134,19 +122,22 @@ pub fn check_moves(
     }
     let count = wire::payload_word(file, 0);
     let s = motion::standing(starts, k);
-    let q = replay_moves(file, len, count, rows, n, k, s);
-    let list = q.list;
-    let t = q.state;
+    let mut robots = [255u8; 128];
+    let mut vertices = [255u8; 64];
+    motion::robots_of(s, &mut robots);
+    motion::vertices_of(s, &mut vertices);
+    let list = replay_moves(file, len, count, rows, n, k, &mut robots, &mut vertices);
     match list {
         MoveList::Legal(_) => {}
         _ => {
             return list;
         }
     }
-    if len != 2 + count * 3 {
+    let whole = 2 + count * 3;
+    let r = off_goal(&vertices, goals, k);
+    if len != whole {
         return MoveList::Short(count);
     }
-    let r = off_goal(t, goals, k);
     if r < k {
         return MoveList::Goal(r);
     }

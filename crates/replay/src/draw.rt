@@ -7,43 +7,44 @@ ghost use Rattle.spec.specs.Arrangement.{mv};
 ghost use Rattle.theory.specs.Maps.Layout.{Accepted};
 ghost use Rattle.layout.specs.Map.{MapHeld};
 ghost use Rattle.wire.specs.Laid.{laidAll};
-ghost use Rattle.motion.specs.States.{stateOf};
+ghost use Rattle.motion.specs.States.{stateOf, movedBy};
+ghost use Rattle.motion.specs.Tables.{tabled, onVertices};
 ghost use Rattle.replay.specs.Drawn.{MoveDrawn, partOf, EndsOn, AllDrawn};
-ghost use Rattle.replay.specs.Moves.{fileBytes};
+ghost use Rattle.replay.specs.Moves.{fileBytes, threeMove};
 ghost use Rattle.replay.specs.Follow.{seated, followed, stepFrom};
 use crate::Drawn;
 use layout::MapRead;
 use motion::State;
 use numbering::Robot;
 use numbering::Vertex;
+use wire::Three;
 
 // Who stands on place i, a vertex v, once robot r has come in at place j.
-fn robot_after(s: State, v: u8, i: usize, j: usize, r: u8) -> u8
-    ensures { λ x. ⌜ x ≡ seated (stateOf s) v i j r ⌝ }
+fn robot_after(robots: &[u8], v: u8, i: usize, j: usize, r: u8) -> usize
+    ensures { λ x. ⌜ (x ≡ seated (onVertices (now (robots .entry))) v i j r) × (x < 256) ⌝ }
 {
     if i == j {
-        return r;
+        return r as usize;
     }
-    let x = motion::robot_on(s, Vertex(v));
-    x.0
+    motion::robot_in(robots, Vertex(v)) as usize
 }
 
 // Lays the follow list of robot r's step into place j of a zone from payload offset `off` on.
-fn write_list(s: State, zone: &[u8], j: usize, r: u8, off: usize, out: &mut [u8])
+fn write_list(robots: &[u8], zone: &[u8], j: usize, r: u8, off: usize, out: &mut [u8])
     requires { ⌜ (length (now zone) ≤ 255) × (off < 4294967296) ⌝ }
-    ensures { λ q. ⌜ now (out .exit) ≡ laidAll (now (out .entry)) off (followed (stateOf s) (now (zone .entry)) j r) ⌝ }
+    ensures { λ q. ⌜ now (out .exit) ≡ laidAll (now (out .entry)) off (followed (onVertices (now (robots .entry))) (now (zone .entry)) j r) ⌝ }
 {
     let mut i: usize = 0;
     while i < zone.len() {
-        let x = robot_after(s, zone[i], i, j, r);
-        wire::put_byte(out, off + i, x);
+        let x = robot_after(robots, zone[i], i, j, r);
+        wire::put_byte(out, off + i, x as u8);
         i += 1;
     }
 }
 
 // Lays a step from payload offset `off` on, with the follow list where it fills a clique; gives the offset after it.
 fn write_step(
-    s: State,
+    robots: &[u8],
     zone: &[u8],
     j: usize,
     r: u8,
@@ -55,14 +56,12 @@ fn write_step(
     out: &mut [u8],
 ) -> usize
     requires { ⌜ (length (now zone) ≤ 128) × (off < 4294967040) ⌝ }
-    ensures { λ q. ⌜ (q ≡ off + length (stepFrom (stateOf s) (now (zone .entry)) j r u v behind filled)) × (now (out .exit) ≡ laidAll (now (out .entry)) off (stepFrom (stateOf s) (now (zone .entry)) j r u v behind filled)) ⌝ }
+    ensures { λ q. ⌜ (q ≡ off + length (stepFrom (onVertices (now (robots .entry))) (now (zone .entry)) j r u v behind filled)) × (now (out .exit) ≡ laidAll (now (out .entry)) off (stepFrom (onVertices (now (robots .entry))) (now (zone .entry)) j r u v behind filled)) ⌝ }
 {
-    wire::put_byte(out, off, r);
-    wire::put_byte(out, off + 1, u);
-    wire::put_byte(out, off + 2, v);
+    wire::put_three(out, off, r, u, v);
     wire::put_byte(out, off + 3, behind);
     if filled {
-        write_list(s, zone, j, r, off + 4, out);
+        write_list(robots, zone, j, r, off + 4, out);
         return off + 4 + zone.len();
     }
     off + 4
@@ -82,7 +81,7 @@ fn part_of(listed: &[u8], a: usize, e: usize) -> &[u8]
 // Lays the step of robot r's move from u to v, if that is a move between zones.
 fn draw_move(
     d: Drawn,
-    s: State,
+    robots: &[u8],
     map: MapRead,
     listed: &[u8],
     r: u8,
@@ -91,7 +90,7 @@ fn draw_move(
     out: &mut [u8],
 ) -> Drawn
     requires { ⌜ (d .steps < 65536) × (d .bytes < 4294967040) ⌝ }
-    ensures { λ q. ⌜ ((m : Map) → MapHeld map m → now (listed .entry) ≡ map .listed → v < m .size → Accepted m → MoveDrawn m (stateOf s) (mv r u v) d (now (out .entry)) q (now (out .exit))) ⌝ }
+    ensures { λ q. ⌜ ((m : Map) → MapHeld map m → now (listed .entry) ≡ map .listed → v < m .size → Accepted m → MoveDrawn m (onVertices (now (robots .entry))) (mv r u v) d (now (out .entry)) q (now (out .exit))) ⌝ }
     ensures { λ q. ⌜ (q .steps ≤ d .steps + 1) × (q .bytes ≤ d .bytes + 132) ⌝ }
 {
     let zone = map.zone;
@@ -119,16 +118,43 @@ fn draw_move(
     if part.len() != n {
         return d;
     }
-    let behind = zones::behind_of(kind, s, part, j);
-    let filled = zones::fills(kind, s, part);
-    let bytes = write_step(s, part, j, r, u, v, behind, filled, d.bytes, out);
+    let behind = zones::behind_of(kind, robots, part, j);
+    let filled = zones::fills_in(kind, robots, part);
+    let bytes = write_step(robots, part, j, r, u, v, behind, filled, d.bytes, out);
     Drawn {
         steps: d.steps + 1,
         bytes: bytes,
     }
 }
 
-// Lays the steps of the list's first `count` moves, made from state s, after the two bytes of the count.
+// Makes the move before, and lays the step of the next one, if that is a move between zones: as its robot comes in.
+fn next_step(
+    d: Drawn,
+    robots: &mut [u8],
+    vertices: &mut [u8],
+    map: MapRead,
+    listed: &[u8],
+    last: Three,
+    x: Three,
+    out: &mut [u8],
+) -> Drawn
+    requires { ⌜ (d .steps < 65536) × (d .bytes < 4294967040) ⌝ }
+    ensures { λ q. ⌜ tabled (now (robots .exit)) (now (vertices .exit)) ≡ movedBy (tabled (now (robots .entry)) (now (vertices .entry))) (threeMove last) ⌝ }
+    ensures { λ q. ⌜ ((m : Map) → MapHeld map m → now (listed .entry) ≡ map .listed → x .third < m .size → Accepted m → MoveDrawn m (movedBy (tabled (now (robots .entry)) (now (vertices .entry))) (threeMove last)) (threeMove x) d (now (out .entry)) q (now (out .exit))) ⌝ }
+    ensures { λ q. ⌜ (q .steps ≤ d .steps + 1) × (q .bytes ≤ d .bytes + 132) ⌝ }
+{
+    motion::shift(
+        robots,
+        vertices,
+        Robot(last.first),
+        Vertex(last.second),
+        Vertex(last.third),
+    );
+    draw_move(d, robots, map, listed, x.first, x.second, x.third, out)
+}
+
+// Lays the steps of the list's first `count` moves, made from state s, after the two bytes of the count. Robot 255 and vertex
+// 255 stand for no move.
 pub fn draw_moves(
     file: &[u8],
     count: usize,
@@ -140,17 +166,21 @@ pub fn draw_moves(
     requires { ⌜ count < 65536 ⌝ }
     ensures { λ q. ⌜ ((m : Map) → MapHeld map m → Accepted m → listed ≡ map .listed → EndsOn m (fileBytes (now (file .entry))) count → AllDrawn m (fileBytes (now (file .entry))) count (stateOf s) (now (out .entry)) q (now (out .exit))) ⌝ }
 {
-    let mut t = s;
+    let mut robots = [255u8; 128];
+    let mut vertices = [255u8; 64];
+    motion::robots_of(s, &mut robots);
+    motion::vertices_of(s, &mut vertices);
+    let mut last = Three {
+        first: 255,
+        second: 255,
+        third: 255,
+    };
     let mut d = Drawn { steps: 0, bytes: 2 };
     let mut i: usize = 0;
     while i < count {
-        let at = i * 3;
-        let r = wire::payload_byte(file, 2 + at);
-        let u = wire::payload_byte(file, 3 + at);
-        let v = wire::payload_byte(file, 4 + at);
-        let next = motion::moved(t, Robot(r), Vertex(u), Vertex(v));
-        d = draw_move(d, t, map, &listed, r, u, v, out);
-        t = next;
+        let x = wire::payload_three(file, 2 + i * 3);
+        d = next_step(d, &mut robots, &mut vertices, map, &listed, last, x, out);
+        last = x;
         i += 1;
     }
     d

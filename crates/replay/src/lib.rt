@@ -25,12 +25,6 @@ pub enum MoveList {
     Goal(usize),
 }
 
-// How far a replay came, and the state that it reached.
-pub struct Replay {
-    pub list: MoveList,
-    pub state: motion::State,
-}
-
 // How many steps are drawn, and the payload offset after them.
 pub struct Drawn {
     pub steps: usize,

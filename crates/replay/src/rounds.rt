@@ -21,10 +21,10 @@ pub fn write_rounds(file: &[u8], count: usize, out: &mut [u8])
     let mut left = [0usize; 256];
     let mut i: usize = 0;
     while i < count {
-        let at = i * 3;
-        let r = wire::payload_byte(file, 2 + at) as usize;
-        let u = wire::payload_byte(file, 3 + at) as usize;
-        let v = wire::payload_byte(file, 4 + at) as usize;
+        let x = wire::payload_three(file, 2 + i * 3);
+        let r = x.first as usize;
+        let u = x.second as usize;
+        let v = x.third as usize;
         let round = later(last[r] + 1, left[v]);
         last[r] = round;
         left[u] = round;

@@ -34,13 +34,16 @@ laid-append o off (x ∷ xs) ys =
     let e : off + 1 + length xs ≡ off + suc (length xs) = omega arith in
     laid-append (laid o off x) (off + 1) xs ys ∙ ap (λ (k : ℕ). laidAll (laidAll (laid o off x) (off + 1) xs) k ys) e
 
+-- two bytes that one block holds stand side by side
+pub laid-two : (o : List ℕ) (off a b : ℕ) → off % 504 < 503 → set (set o (placeOf off) a) (placeOf off + 1) b ≡ laidAll o off (a ∷ b ∷ [])
+laid-two o off a b h = let e : placeOf off + 1 ≡ placeOf (off + 1) = omega arith in ap (λ (i : ℕ). set (set o (placeOf off) a) i b) e
+
 -- three bytes that one block holds stand side by side
 pub laid-three : (o : List ℕ) (off a b c : ℕ) → off % 504 < 502
     → set (set (set o (placeOf off) a) (placeOf off + 1) b) (placeOf off + 2) c ≡ laidAll o off (a ∷ b ∷ c ∷ [])
 laid-three o off a b c h =
-    let e : placeOf off + 1 ≡ placeOf (off + 1) = omega arith in
     let g : placeOf off + 2 ≡ placeOf (off + 1 + 1) = omega arith in
-    ap (λ (i : ℕ). set (set (set o (placeOf off) a) i b) (placeOf off + 2) c) e
+    ap (λ (l : List ℕ). set l (placeOf off + 2) c) (laid-two o off a b (omega arith))
     ∙ ap (λ (i : ℕ). set (set (set o (placeOf off) a) (placeOf (off + 1)) b) i c) g
 
 -- two bytes of a payload have two places

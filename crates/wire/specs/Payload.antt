@@ -12,6 +12,7 @@ use native.Mathlib.Numerals.{add-one}
 use native.Mathlib.Omega.{arith}
 use Rattle.spec.specs.Wire.{word}
 use Rattle.spec.specs.Terms.{Bytes}
+use Rattle.wire.specs.declared.Three.{Three}
 
 -- the payload parts of the first k blocks
 unfoldable pub parts : List ℕ → ℕ → List ℕ
@@ -34,6 +35,31 @@ wordAt f off = getD f (placeOf off) 0 * 256 + getD f (placeOf (off + 1)) 0
 pub word-out : (f : List ℕ) (off : ℕ) → length f ≤ off → wordAt f off ≡ 0
 word-out f off h =
     rw (List·getD-eq-default f 0 {n = placeOf off} (omega arith), List·getD-eq-default f 0 {n = placeOf (off + 1)} (omega arith))
+
+-- the three bytes from `off` of the payload on
+pub record ThreeAt (f : List ℕ) (off : ℕ) (t : Three) : Type 0 where
+  pub first : t .first ≡ getD f (placeOf off) 0
+  pub second : t .second ≡ getD f (placeOf (off + 1)) 0
+  pub third : t .third ≡ getD f (placeOf (off + 2)) 0
+
+-- past the file's end they are 0
+pub three-out : (f : List ℕ) (off : ℕ) → length f ≤ off → ThreeAt f off (record { first = 0; second = 0; third = 0 })
+three-out f off h = record {
+  first = sym (List·getD-eq-default f 0 {n = placeOf off} (omega arith));
+  second = sym (List·getD-eq-default f 0 {n = placeOf (off + 1)} (omega arith));
+  third = sym (List·getD-eq-default f 0 {n = placeOf (off + 2)} (omega arith));
+}
+
+-- each is read at its place
+pub three-read : (f : List ℕ) (off p q s a b c : ℕ) → p ≡ placeOf off → q ≡ placeOf (off + 1) → s ≡ placeOf (off + 1 + 1)
+    → a ≡ getD f p 0 → b ≡ getD f q 0 → c ≡ getD f s 0 → ThreeAt f off (record { first = a; second = b; third = c })
+three-read f off p q s a b c e g h x y z =
+    let l : placeOf (off + 1 + 1) ≡ placeOf (off + 2) = omega arith in
+    record {
+      first = x ∙ ap (λ (i : ℕ). getD f i 0) e;
+      second = y ∙ ap (λ (i : ℕ). getD f i 0) g;
+      third = z ∙ ap (λ (i : ℕ). getD f i 0) (h ∙ l);
+    }
 
 -- one number is below another or not
 pub lt-or-ge : (a b : ℕ) → (a < b) ⊎ (b ≤ a)

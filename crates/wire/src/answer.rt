@@ -24,14 +24,36 @@ pub fn put_byte(out: &mut [u8], off: usize, b: u8)
     }
 }
 
-// Puts n to its place as the two-byte number at `off` of a payload, its high byte first.
-pub fn put_word(out: &mut [u8], off: usize, n: usize)
+// Puts n to its place as the two-byte number at `off` of a payload, byte by byte.
+fn put_word_apart(out: &mut [u8], off: usize, n: usize)
     ensures { λ r. ⌜ now (out .exit) ≡ laidAll (now (out .entry)) off (u16 n) ⌝ }
 {
     if off < out.len() {
         put_byte(out, off, (n / 256 % 256) as u8);
         put_byte(out, off + 1, (n % 256) as u8);
     }
+}
+
+// Puts n to its place as the two-byte number at `off` of a payload, its high byte first: at once where one block and the
+// buffer have both bytes.
+pub fn put_word(out: &mut [u8], off: usize, n: usize)
+    ensures { λ r. ⌜ now (out .exit) ≡ laidAll (now (out .entry)) off (u16 n) ⌝ }
+{
+    if out.len() <= off {
+        return;
+    }
+    let within = off % 504;
+    if within > 502 {
+        put_word_apart(out, off, n);
+        return;
+    }
+    let at = (off / 504) * 512 + 6 + within;
+    if out.len() <= at + 1 {
+        put_word_apart(out, off, n);
+        return;
+    }
+    out[at] = (n / 256 % 256) as u8;
+    out[at + 1] = (n % 256) as u8;
 }
 
 // Puts three bytes to their places from `off` on, one by one.
@@ -134,21 +156,23 @@ fn seal(out: &mut [u8], kind: u8, len: usize)
 pub fn deliver(out: &mut [u8], kind: u8, limit: u16, len: usize) -> Delivered
     ensures { λ r. ⌜ answered r (now (out .exit)) ≡ deliveredOf kind limit len (now (out .entry)) ⌝ }
 {
-    if len > 504 * (limit as usize) {
+    let most = 504 * (limit as usize);
+    let room = out.len() / 512 * 504;
+    if len > most {
         zero(out);
         return Delivered {
             number: 61,
             value: 0,
         };
     }
-    let size = (len + 503) / 504 * 512;
-    if size > out.len() {
+    if len > room {
         zero(out);
         return Delivered {
             number: 60,
             value: 0,
         };
     }
+    let size = (len + 503) / 504 * 512;
     seal(out, kind, len);
     Delivered {
         number: 0,

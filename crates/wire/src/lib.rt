@@ -16,7 +16,10 @@ pub use answer::put_three;
 pub use answer::put_word;
 pub use answer::zero;
 pub use check::check_file;
+pub use payload::byte_at;
+pub use payload::next_place;
 pub use payload::payload_byte;
+pub use payload::payload_three;
 pub use payload::payload_word;
 
 // What a file is: a payload of so many bytes, or which of document 01's four refusals at which block.
@@ -32,4 +35,11 @@ pub enum Checked {
 pub struct Delivered {
     pub number: u32,
     pub value: u32,
+}
+
+// Three bytes of a payload that stand one after the other, as those of a move.
+pub struct Three {
+    pub first: u8,
+    pub second: u8,
+    pub third: u8,
 }

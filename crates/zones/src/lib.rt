@@ -13,4 +13,5 @@ pub use reach::can_end;
 pub use reach::can_enter;
 pub use reach::can_leave;
 pub use reach::fills;
+pub use reach::fills_in;
 pub use reach::is_full;

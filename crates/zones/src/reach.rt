@@ -4,23 +4,68 @@ ghost use Prim.Native.Nat.{_≤_, _<_};
 ghost use lib.ListN.{length};
 ghost use lib.Dec.{eqb};
 ghost use Rattle.spec.specs.Outcome.{_&&_};
-ghost use Rattle.spec.specs.Arrangement.{full, lastFree};
+ghost use Rattle.spec.specs.Arrangement.{order, full, lastFree};
+ghost use Rattle.spec.specs.Ring.{ringBehind};
 ghost use Rattle.spec.specs.State.{arrangementOf};
 ghost use Rattle.spec.specs.ZoneKind.{behindOf, canLeave, canEnter, canEnd};
 ghost use Rattle.motion.specs.States.{stateOf};
+ghost use Rattle.motion.specs.Tables.{onVertices};
 use motion::State;
 use numbering::Robot;
+use numbering::Vertex;
 
-// The neighbour that a step to place j names: its behind.
-pub fn behind_of(kind: u8, s: State, zone: &[u8], j: usize) -> u8
+// "in a ring, the first cart met going backward from to, 255 if the ring is empty"
+fn behind_round(robots: &[u8], zone: &[u8], j: usize) -> u8
     requires { ⌜ j < length (now zone) ⌝ }
-    ensures { λ r. ⌜ r ≡ behindOf kind (arrangementOf (stateOf s) (now (zone .entry))) j ⌝ }
+    ensures { λ r. ⌜ r ≡ ringBehind (arrangementOf (onVertices (now (robots .entry))) (now (zone .entry))) j ⌝ }
+{
+    let r = hall::behind(robots, zone, 0, j);
+    if r != 255 {
+        return r;
+    }
+    hall::behind(robots, zone, j + 1, zone.len())
+}
+
+// The neighbour that a step to place j names: its behind, from the lent table of the robots by vertex.
+pub fn behind_of(kind: u8, robots: &[u8], zone: &[u8], j: usize) -> u8
+    requires { ⌜ j < length (now zone) ⌝ }
+    ensures { λ r. ⌜ r ≡ behindOf kind (arrangementOf (onVertices (now (robots .entry))) (now (zone .entry))) j ⌝ }
 {
     match kind {
         3 => 255,
-        4 => ring::behind(s, zone, j),
-        _ => hall::behind(s, zone, j),
+        4 => behind_round(robots, zone, j),
+        _ => hall::behind(robots, zone, 0, j),
     }
+}
+
+// The number of robots in a zone, by the lent table.
+fn robots_inside(robots: &[u8], zone: &[u8]) -> usize
+    ensures { λ n. ⌜ n ≡ length (order (arrangementOf (onVertices (now (robots .entry))) (now (zone .entry)))) ⌝ }
+{
+    let mut n: usize = 0;
+    let mut k: usize = 0;
+    while k < zone.len() {
+        let r = motion::robot_in(robots, Vertex(zone[k]));
+        k += 1;
+        if r != 255 {
+            n += 1;
+        }
+    }
+    n
+}
+
+// Does whoever enters fill a clique, by the lent table?
+pub fn fills_in(kind: u8, robots: &[u8], zone: &[u8]) -> bool
+    ensures { λ b. ⌜ b ≡ (eqb kind 3 && lastFree (arrangementOf (onVertices (now (robots .entry))) (now (zone .entry)))) ⌝ }
+{
+    if kind != 3 {
+        return false;
+    }
+    if zone.len() == 0 {
+        return false;
+    }
+    let n = robots_inside(robots, zone);
+    n == zone.len() - 1
 }
 
 // "'Full' means a cart on every point."

@@ -5,27 +5,22 @@ use lib.ListN.{length, take}
 use Rattle.spec.specs.Layout.{Map}
 use Rattle.adjacency.specs.Rows.{Shows}
 use Rattle.wire.specs.Payload.{payload}
-use Rattle.motion.specs.States.{stateOf}
-use Rattle.replay.specs.Moves.{Replayed, replay-start}
+use Rattle.motion.specs.Tables.{tabled}
+use Rattle.replay.specs.Moves.{Replayed, replay-start, three-move}
 use Rattle.replay.specs.Check.{faultAt, replay-short, replay-refused, replay-next, replay-all}
 use native.Mathlib.Omega.{arith}
 use Rattle.replay.proofs.check.replay_moves.Statement.{statement}
 use Rattle.replay.proofs.check.replay_moves.Tie as tie
-use Rattle.replay.proofs.check.replay_moves.Reads as reads
-use Rattle.replay.proofs.check.replay_moves.Lts as lts
-use Rattle.motion.proofs.moved.Reads as moved-reads
-use Rattle.replay.proofs.check.fault_of.Reads as fault-of-reads
-use Rattle.wire.proofs.payload_byte.Reads as payload-byte-reads
 
 abbrev Inv-loop : tie.InvT-loop
-Inv-loop file len count rows n k t₀ i₀ t i = (i ≤ count)
-    × ((m : Map) → m .size ≡ n → Shows rows (m .edges) → Replayed m k (take len (payload file)) count (stateOf t₀) i (stateOf t))
+Inv-loop file len count rows n k robots₀ vertices₀ i₀ robots vertices i = (i ≤ count) × (length robots ≡ length robots₀) × (length vertices ≡ length vertices₀)
+    × ((m : Map) → m .size ≡ n → Shows rows (m .edges) → Replayed m k (take len (payload file)) count (tabled robots₀ vertices₀) i (tabled robots vertices))
 
 abbrev μ-loop : tie.MeasureT-loop
-μ-loop file len count rows n k t₀ i₀ t i = count - i
+μ-loop file len count rows n k robots₀ vertices₀ i₀ robots vertices i = count - i
 
 loop-holds : tie.Need-loop-holds Inv-loop μ-loop
-loop-holds c = (search needs, λ m e h. replay-start m _ _ _ _)
+loop-holds c = (search needs, refl, refl, λ m e h. replay-start m _ _ _ _)
 
 mul-at : tie.Need-mul-at Inv-loop μ-loop
 mul-at c = search needs
@@ -33,26 +28,20 @@ mul-at c = search needs
 add-if1 : tie.Need-add-if1 Inv-loop μ-loop
 add-if1 c = search needs
 
+same-length : tie.Need-same-length Inv-loop μ-loop
+same-length c = search needs
+
+same-length-2 : tie.Need-same-length-2 Inv-loop μ-loop
+same-length-2 c = search needs
+
 returns : tie.Need-returns Inv-loop μ-loop
-returns c = λ m e h. replay-short m _ _ _ _ (c .before .before .before .before .pre .0) _ _ _ (c .before .before .loop .inv .1 m e h) _ (search needs) (c .if1 .taken)
+returns c = λ m e h. replay-short m _ _ _ _ (c .before .before .before .before .before .before .pre .0) _ _ _ (c .before .before .loop .inv .3 m e h) _ (search needs) (c .if1 .taken)
 
-add-payload-byte : tie.Need-add-payload-byte Inv-loop μ-loop
-add-payload-byte c = search needs
+add-payload-three : tie.Need-add-payload-three Inv-loop μ-loop
+add-payload-three c = search needs
 
-payload-byte-requires : tie.Need-payload-byte-requires Inv-loop μ-loop
-payload-byte-requires c κs = search needs
-
-add-payload-byte-2 : tie.Need-add-payload-byte-2 Inv-loop μ-loop
-add-payload-byte-2 c = search needs
-
-payload-byte-requires-2 : tie.Need-payload-byte-requires-2 Inv-loop μ-loop
-payload-byte-requires-2 c κs = search needs
-
-add-payload-byte-3 : tie.Need-add-payload-byte-3 Inv-loop μ-loop
-add-payload-byte-3 c = search needs
-
-payload-byte-requires-3 : tie.Need-payload-byte-requires-3 Inv-loop μ-loop
-payload-byte-requires-3 c κs = search needs
+payload-three-requires : tie.Need-payload-three-requires Inv-loop μ-loop
+payload-three-requires c κs = search needs
 
 fault-of-requires : tie.Need-fault-of-requires Inv-loop μ-loop
 fault-of-requires c κs = search needs
@@ -60,47 +49,59 @@ fault-of-requires c κs = search needs
 enum-told : tie.Need-enum-told Inv-loop μ-loop
 enum-told c = search needs
 
+same-length-3 : tie.Need-same-length-3 Inv-loop μ-loop
+same-length-3 c = search needs
+
+same-length-4 : tie.Need-same-length-4 Inv-loop μ-loop
+same-length-4 c = search needs
+
 returns-2 : tie.Need-returns-2 Inv-loop μ-loop
 returns-2 c = λ m e h.
-    replay-refused m _ _ _ _ (c .before .before .before .before .before .before .before .before .before .before .pre .0) _ _ _ (c .before .before .before .before .before .before .before .before .loop .inv .1 m e h) _ 46 _ _ _ (search needs) (search needs)
-    (c .before .before .before .before .before .payload-byte .ensures)
-    (c .before .before .before .before .payload-byte2 .ensures)
-    (c .before .before .before .payload-byte3 .ensures)
-    (sym (ap (faultAt _) (c .enum-told .given .1)) ∙ c .before .before .fault-of .ensures m e h _)
+    replay-refused m _ _ _ _ (c .before .before .before .before .before .before .before .before .before .before .before .pre .0) _ _ _ (c .before .before .before .before .before .before .before .loop .inv .3 m e h) _ _ 46 _ (search needs) (search needs)
+    (three-move (c .before .before .before .before .before .before .before .before .before .before .before .args .file .now) (c .before .before .before .before .before .before .before .loop .i) (c .before .before .before .before .payload-three .result) (c .before .before .before .before .payload-three .ensures))
+    (sym (ap (faultAt _) (c .enum-told .given .1)) ∙ c .before .before .fault-of .ensures m e h _ _)
     refl
     (λ j z. let y : _≡_ {A = ℕ} 0 1 = cc in omega arith)
 
 enum-told-2 : tie.Need-enum-told-2 Inv-loop μ-loop
 enum-told-2 c = search needs
 
+same-length-5 : tie.Need-same-length-5 Inv-loop μ-loop
+same-length-5 c = search needs
+
+same-length-6 : tie.Need-same-length-6 Inv-loop μ-loop
+same-length-6 c = search needs
+
 returns-3 : tie.Need-returns-3 Inv-loop μ-loop
 returns-3 c = λ m e h.
-    replay-refused m _ _ _ _ (c .before .before .before .before .before .before .before .before .before .before .pre .0) _ _ _ (c .before .before .before .before .before .before .before .before .loop .inv .1 m e h) _ 47 _ _ _ (search needs) (search needs)
-    (c .before .before .before .before .before .payload-byte .ensures)
-    (c .before .before .before .before .payload-byte2 .ensures)
-    (c .before .before .before .payload-byte3 .ensures)
-    (sym (ap (faultAt _) (c .enum-told2 .given .1)) ∙ c .before .before .fault-of .ensures m e h _)
+    replay-refused m _ _ _ _ (c .before .before .before .before .before .before .before .before .before .before .before .pre .0) _ _ _ (c .before .before .before .before .before .before .before .loop .inv .3 m e h) _ _ 47 _ (search needs) (search needs)
+    (three-move (c .before .before .before .before .before .before .before .before .before .before .before .args .file .now) (c .before .before .before .before .before .before .before .loop .i) (c .before .before .before .before .payload-three .result) (c .before .before .before .before .payload-three .ensures))
+    (sym (ap (faultAt _) (c .enum-told2 .given .1)) ∙ c .before .before .fault-of .ensures m e h _ _)
     refl
     (λ j z. let y : _≡_ {A = ℕ} 0 1 = cc in omega arith)
 
 enum-told-3 : tie.Need-enum-told-3 Inv-loop μ-loop
 enum-told-3 c = search needs
 
+same-length-7 : tie.Need-same-length-7 Inv-loop μ-loop
+same-length-7 c = search needs
+
+same-length-8 : tie.Need-same-length-8 Inv-loop μ-loop
+same-length-8 c = search needs
+
 returns-4 : tie.Need-returns-4 Inv-loop μ-loop
 returns-4 c = λ m e h.
-    replay-refused m _ _ _ _ (c .before .before .before .before .before .before .before .before .before .before .pre .0) _ _ _ (c .before .before .before .before .before .before .before .before .loop .inv .1 m e h) _ 48 _ _ _ (search needs) (search needs)
-    (c .before .before .before .before .before .payload-byte .ensures)
-    (c .before .before .before .before .payload-byte2 .ensures)
-    (c .before .before .before .payload-byte3 .ensures)
-    (sym (ap (faultAt _) (c .enum-told3 .given .1)) ∙ c .before .before .fault-of .ensures m e h _)
+    replay-refused m _ _ _ _ (c .before .before .before .before .before .before .before .before .before .before .before .pre .0) _ _ _ (c .before .before .before .before .before .before .before .loop .inv .3 m e h) _ _ 48 _ (search needs) (search needs)
+    (three-move (c .before .before .before .before .before .before .before .before .before .before .before .args .file .now) (c .before .before .before .before .before .before .before .loop .i) (c .before .before .before .before .payload-three .result) (c .before .before .before .before .payload-three .ensures))
+    (sym (ap (faultAt _) (c .enum-told3 .given .1)) ∙ c .before .before .fault-of .ensures m e h _ _)
     refl
     (λ j z. let y : _≡_ {A = ℕ} 0 1 = cc in omega arith)
 
 enum-told-4 : tie.Need-enum-told-4 Inv-loop μ-loop
 enum-told-4 c = search needs
 
-moved-requires : tie.Need-moved-requires Inv-loop μ-loop
-moved-requires c κs = search needs
+shift-requires : tie.Need-shift-requires Inv-loop μ-loop
+shift-requires c κs = search needs
 
 add-i : tie.Need-add-i Inv-loop μ-loop
 add-i c = search needs
@@ -111,17 +112,23 @@ loop-less c = search needs
 loop-again : tie.Need-loop-again Inv-loop μ-loop
 loop-again c = (
   search needs,
+  search needs,
+  search needs,
   λ m e h.
-      replay-next m _ _ _ _ (c .before .before .before .before .before .before .before .before .before .before .before .pre .0) _ _ _ (c .before .before .before .before .before .before .before .before .before .loop .inv .1 m e h) _ _ _ _ (search needs) (search needs)
-      (c .before .before .before .before .before .before .payload-byte .ensures)
-      (c .before .before .before .before .before .payload-byte2 .ensures)
-      (c .before .before .before .before .payload-byte3 .ensures)
-      (sym (ap (faultAt _) (c .before .enum-told4 .given .1)) ∙ c .before .before .before .fault-of .ensures m e h _)
-      (c .moved .ensures),
+      replay-next m _ _ _ _ (c .before .before .before .before .before .before .before .before .before .before .before .before .before .before .before .before .before .before .pre .0) _ _ _ (c .before .before .before .before .before .before .before .before .before .before .before .before .before .before .loop .inv .3 m e h) _ _ (search needs) (search needs)
+      (three-move (c .before .before .before .before .before .before .before .before .before .before .before .before .before .before .before .before .before .before .args .file .now) (c .before .before .before .before .before .before .before .before .before .before .before .before .before .before .loop .i) (c .before .before .before .before .before .before .before .before .before .before .before .payload-three .result) (c .before .before .before .before .before .before .before .before .before .before .before .payload-three .ensures))
+      (sym (ap (faultAt _) (c .before .before .before .before .before .before .before .enum-told4 .given .1)) ∙ c .before .before .before .before .before .before .before .before .before .fault-of .ensures m e h _ _)
+      (c .before .before .before .before .shift .ensures),
 )
 
+same-length-9 : tie.Need-same-length-9 Inv-loop μ-loop
+same-length-9 c = search needs
+
+same-length-10 : tie.Need-same-length-10 Inv-loop μ-loop
+same-length-10 c = search needs
+
 returns-5 : tie.Need-returns-5 Inv-loop μ-loop
-returns-5 c = λ m e h. replay-all m _ _ _ _ (c .before .before .before .pre .0) _ _ _ (c .before .loop .inv .1 m e h) _ (search needs) refl
+returns-5 c = λ m e h. replay-all m _ _ _ _ (c .before .before .before .before .before .pre .0) _ _ _ (c .before .loop .inv .3 m e h) (search needs)
 
 pub replay-moves-spec : {M : Type 1} → statement M
 replay-moves-spec =
@@ -132,23 +139,29 @@ replay-moves-spec =
     loop-holds
     mul-at
     add-if1
+    same-length
+    same-length-2
     returns
-    add-payload-byte
-    payload-byte-requires
-    add-payload-byte-2
-    payload-byte-requires-2
-    add-payload-byte-3
-    payload-byte-requires-3
+    add-payload-three
+    payload-three-requires
     fault-of-requires
     enum-told
+    same-length-3
+    same-length-4
     returns-2
     enum-told-2
+    same-length-5
+    same-length-6
     returns-3
     enum-told-3
+    same-length-7
+    same-length-8
     returns-4
     enum-told-4
-    moved-requires
+    shift-requires
     add-i
     loop-less
     loop-again
+    same-length-9
+    same-length-10
     returns-5)

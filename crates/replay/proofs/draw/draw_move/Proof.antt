@@ -4,15 +4,6 @@ use mathlib.Core.Path.{refl, sym, ap, _∙_}
 use Rattle.replay.specs.Drawn.{part-same, drawn-inside, part-fits, place-low, part-whole, drawn-crossing, step-near}
 use Rattle.replay.proofs.draw.draw_move.Statement.{statement}
 use Rattle.replay.proofs.draw.draw_move.Tie as tie
-use Rattle.replay.proofs.draw.draw_move.Reads as reads
-use Rattle.replay.proofs.draw.draw_move.Lts as lts
-use Rattle.layout.proofs.place_of.Reads as place-of-reads
-use Rattle.layout.proofs.zone_entry.Reads as zone-entry-reads
-use Rattle.layout.proofs.zone_of.Reads as zone-of-reads
-use Rattle.replay.proofs.draw.part_of.Reads as part-of-reads
-use Rattle.replay.proofs.draw.write_step.Reads as write-step-reads
-use Rattle.zones.proofs.behind_of.Reads as behind-of-reads
-use Rattle.zones.proofs.fills.Reads as fills-reads
 
 zone-of-requires : tie.Need-zone-of-requires
 zone-of-requires c κs = search needs
@@ -62,14 +53,14 @@ returns-4 c = (λ m h el hv g. absurd (c .if4 .taken (part-whole _ m h g _ _ hv 
 behind-of-requires : tie.Need-behind-of-requires
 behind-of-requires c κs = search needs
 
-fills-requires : tie.Need-fills-requires
-fills-requires c κs = search needs
+fills-in-requires : tie.Need-fills-in-requires
+fills-in-requires c κs = search needs
 
 write-step-requires : tie.Need-write-step-requires
-write-step-requires c κs = (omega (arith, c .before .before .before .if4 .left), c .before .before .before .before .before .before .before .before .before .before .before .before .before .before .before .before .before .before .before .before .before .before .before .before .before .before .before .before .before .pre .1)
+write-step-requires c κs = (omega (arith, c .before .before .before .if4 .left), c .before .before .before .before .before .before .before .before .before .before .before .before .before .before .before .before .before .before .before .before .before .before .before .before .before .before .before .before .before .before .pre .1)
 
 add-t34 : tie.Need-add-t34
-add-t34 c = record { fits = omega (arith, c .before .before .before .before .before .before .before .before .before .before .before .before .before .before .before .before .before .before .before .before .before .before .before .before .before .before .before .before .before .before .before .before .before .pre .0) }
+add-t34 c = record { fits = omega (arith, c .before .before .before .before .before .before .before .before .before .before .before .before .before .before .before .before .before .before .before .before .before .before .before .before .before .before .before .before .before .before .before .before .before .before .pre .0) }
 
 same-length : tie.Need-same-length
 same-length c = search needs
@@ -77,7 +68,7 @@ same-length c = search needs
 returns-5 : tie.Need-returns-5
 returns-5 c = (
   λ m h el hv g.
-      drawn-crossing _ m h g _ _ hv (c .before .before .before .before .before .before .before .before .before .before .before .before .before .before .before .before .before .before .before .before .before .before .before .before .before .before .before .before .zone-of .result .0) (c .before .before .before .before .before .before .before .before .before .before .before .before .before .before .before .before .before .before .before .before .before .before .before .before .before .before .zone-of2 .result .0) (c .before .before .before .before .before .before .before .before .before .before .before .before .before .before .before .before .before .before .before .before .before .before .before .before .before .before .before .before .zone-of .ensures) (c .before .before .before .before .before .before .before .before .before .before .before .before .before .before .before .before .before .before .before .before .before .before .before .before .before .before .zone-of2 .ensures) _ _ _ _ (c .before .before .before .before .before .before .before .before .before .before .before .before .before .before .before .before .before .before .zone-entry .ensures) (c .before .before .before .before .before .before .before .before .before .before .before .before .before .before .before .before .zone-entry2 .ensures) (c .before .before .before .before .before .before .before .before .before .before .before .before .before .before .zone-entry3 .ensures) (c .before .before .before .before .before .before .before .before .before .before .place-of .ensures) _ _ _ _ (c .before .before .before .before .before .before .before .before .before .before .before .before .before .before .before .before .before .before .before .before .before .before .before .if1 .left) _ _ _ _ _ (part-same _ _ _ _ _ (c .before .before .before .before .before .before .before .before .part-of .ensures) el) (c .before .before .before .before .before .before .behind-of .ensures) (c .before .before .before .before .before .fills .ensures) (c .before .before .before .write-step .ensures .0) (c .before .before .before .write-step .ensures .1),
+      drawn-crossing _ m h g _ _ hv (c .before .before .before .before .before .before .before .before .before .before .before .before .before .before .before .before .before .before .before .before .before .before .before .before .before .before .before .before .zone-of .result .0) (c .before .before .before .before .before .before .before .before .before .before .before .before .before .before .before .before .before .before .before .before .before .before .before .before .before .before .zone-of2 .result .0) (c .before .before .before .before .before .before .before .before .before .before .before .before .before .before .before .before .before .before .before .before .before .before .before .before .before .before .before .before .zone-of .ensures) (c .before .before .before .before .before .before .before .before .before .before .before .before .before .before .before .before .before .before .before .before .before .before .before .before .before .before .zone-of2 .ensures) _ _ _ _ (c .before .before .before .before .before .before .before .before .before .before .before .before .before .before .before .before .before .before .zone-entry .ensures) (c .before .before .before .before .before .before .before .before .before .before .before .before .before .before .before .before .zone-entry2 .ensures) (c .before .before .before .before .before .before .before .before .before .before .before .before .before .before .zone-entry3 .ensures) (c .before .before .before .before .before .before .before .before .before .before .place-of .ensures) _ _ _ _ (c .before .before .before .before .before .before .before .before .before .before .before .before .before .before .before .before .before .before .before .before .before .before .before .if1 .left) _ _ _ _ _ (part-same _ _ _ _ _ (c .before .before .before .before .before .before .before .before .part-of .ensures) el) (c .before .before .before .before .before .before .behind-of .ensures) (c .before .before .before .before .before .fills-in .ensures) (c .before .before .before .write-step .ensures .0) (c .before .before .before .write-step .ensures .1),
   (search needs, step-near _ _ _ _ _ _ _ _ _ _ (c .before .before .before .write-step .ensures .0) (omega (arith, c .before .before .before .before .before .before .before .if4 .left))),
 )
 
@@ -101,7 +92,7 @@ draw-move-spec =
     part-of-requires
     returns-4
     behind-of-requires
-    fills-requires
+    fills-in-requires
     write-step-requires
     add-t34
     same-length

@@ -1,7 +1,7 @@
 use borrow.Author.Needs.{needs}
 use Prim.Native.Nat.{_-_}
 use lib.ListN.{length}
-use Rattle.motion.specs.States.{stateOf}
+use Rattle.motion.specs.Tables.{onVertices}
 use Rattle.replay.specs.Follow.{Following, following-start, following-next, following-end}
 use native.Mathlib.Omega.{arith}
 use Rattle.replay.proofs.draw.write_list.Statement.{statement}
@@ -12,10 +12,10 @@ use Rattle.replay.proofs.draw.robot_after.Reads as robot-after-reads
 use Rattle.wire.proofs.put_byte.Reads as put-byte-reads
 
 abbrev Inv-loop : tie.InvT-loop
-Inv-loop s zone j r off out₀ i₀ out i = Following (stateOf s) zone j r off out₀ i out
+Inv-loop robots zone j r off out₀ i₀ out i = Following (onVertices robots) zone j r off out₀ i out
 
 abbrev μ-loop : tie.MeasureT-loop
-μ-loop s zone j r off out₀ i₀ out i = length zone - i
+μ-loop robots zone j r off out₀ i₀ out i = length zone - i
 
 loop-holds : tie.Need-loop-holds Inv-loop μ-loop
 loop-holds c = following-start _ _ _ _ _ _
@@ -29,6 +29,9 @@ robot-after-requires c κs = search needs
 add-put-byte : tie.Need-add-put-byte Inv-loop μ-loop
 add-put-byte c = search needs
 
+cast-put-byte : tie.Need-cast-put-byte Inv-loop μ-loop
+cast-put-byte c = search needs
+
 put-byte-requires : tie.Need-put-byte-requires Inv-loop μ-loop
 put-byte-requires c κs = search needs
 
@@ -40,7 +43,7 @@ loop-less c = search needs
 
 loop-again : tie.Need-loop-again Inv-loop μ-loop
 loop-again c =
-    following-next _ _ _ _ _ _ (c .before .before .before .before .before .before .before .loop .i) _ (c .before .before .before .before .before .before .before .loop .out) _ (c .before .before .before .before .before .before .before .loop .inv) (c .before .before .before .before .before .before .loop-test .taken) (c .before .before .before .before .robot-after .ensures) (c .before .before .put-byte .ensures)
+    following-next _ _ _ _ _ _ (c .before .before .before .before .before .before .before .loop .i) _ (c .before .before .before .before .before .before .before .loop .out) _ (c .before .before .before .before .before .before .before .loop .inv) (c .before .before .before .before .before .before .loop-test .taken) (c .before .before .before .before .robot-after .ensures .0) (c .before .before .put-byte .ensures)
 
 same-length : tie.Need-same-length Inv-loop μ-loop
 same-length c = search needs
@@ -58,6 +61,7 @@ write-list-spec =
     shared-slice-read-robot-after
     robot-after-requires
     add-put-byte
+    cast-put-byte
     put-byte-requires
     add-i
     loop-less

@@ -7,26 +7,14 @@ use Rattle.replay.proofs.draw.write_step.Lts as lts
 use Rattle.replay.proofs.draw.write_list.Reads as write-list-reads
 use Rattle.wire.proofs.put_byte.Reads as put-byte-reads
 
-put-byte-requires : tie.Need-put-byte-requires
-put-byte-requires c κs = search needs
+put-three-requires : tie.Need-put-three-requires
+put-three-requires c κs = search needs
 
 add-put-byte : tie.Need-add-put-byte
 add-put-byte c = search needs
 
-put-byte-requires-2 : tie.Need-put-byte-requires-2
-put-byte-requires-2 c κs = search needs
-
-add-put-byte-2 : tie.Need-add-put-byte-2
-add-put-byte-2 c = search needs
-
-put-byte-requires-3 : tie.Need-put-byte-requires-3
-put-byte-requires-3 c κs = search needs
-
-add-put-byte-3 : tie.Need-add-put-byte-3
-add-put-byte-3 c = search needs
-
-put-byte-requires-4 : tie.Need-put-byte-requires-4
-put-byte-requires-4 c κs = search needs
+put-byte-requires : tie.Need-put-byte-requires
+put-byte-requires c κs = search needs
 
 add-write-list : tie.Need-add-write-list
 add-write-list c = search needs
@@ -45,7 +33,7 @@ same-length c = search needs
 
 returns : tie.Need-returns
 returns c =
-    step-long _ _ _ _ _ _ _ _ _ _ _ _ _ (c .before .before .before .before .before .before .before .before .before .before .before .before .before .before .before .before .before .before .before .put-byte .ensures) (c .before .before .before .before .before .before .before .before .before .before .before .before .before .before .before .put-byte2 .ensures) (c .before .before .before .before .before .before .before .before .before .before .before .put-byte3 .ensures) (c .before .before .before .before .before .before .before .put-byte4 .ensures) _ (c .before .before .before .before .if1 .taken) _ (c .before .before .write-list .ensures)
+    step-long _ _ _ _ _ _ _ _ _ _ _ (c .before .before .before .before .before .before .before .before .before .before .before .put-three .ensures) (c .before .before .before .before .before .before .before .put-byte .ensures) _ (c .before .before .before .before .if1 .taken) _ (c .before .before .write-list .ensures)
 
 add-result-3 : tie.Need-add-result-3
 add-result-3 c = search needs
@@ -54,20 +42,15 @@ same-length-2 : tie.Need-same-length-2
 same-length-2 c = search needs
 
 returns-2 : tie.Need-returns-2
-returns-2 c =
-    step-short _ _ _ _ _ _ _ _ _ _ _ _ _ (c .before .before .before .before .before .before .before .before .before .before .before .before .before .before .before .put-byte .ensures) (c .before .before .before .before .before .before .before .before .before .before .before .put-byte2 .ensures) (c .before .before .before .before .before .before .before .put-byte3 .ensures) (c .before .before .before .put-byte4 .ensures) _ (c .if1 .left)
+returns-2 c = step-short _ _ _ _ _ _ _ _ _ _ _ (c .before .before .before .before .before .before .before .put-three .ensures) (c .before .before .before .put-byte .ensures) _ (c .if1 .left)
 
 pub write-step-spec : {M : Type 1} → statement M
 write-step-spec =
     tie.close
     (tie.spec
-    put-byte-requires
+    put-three-requires
     add-put-byte
-    put-byte-requires-2
-    add-put-byte-2
-    put-byte-requires-3
-    add-put-byte-3
-    put-byte-requires-4
+    put-byte-requires
     add-write-list
     write-list-requires
     add-result

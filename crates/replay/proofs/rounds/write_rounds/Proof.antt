@@ -1,15 +1,10 @@
 use borrow.Author.Needs.{needs}
 use Prim.Native.Nat.{_-_}
-use Rattle.replay.specs.Moves.{fileBytes}
+use Rattle.replay.specs.Moves.{fileBytes, three-bytes}
 use Rattle.replay.specs.Rounds.{Timing, timing-start, timing-more, timing-end, entry-small}
 use native.Mathlib.Omega.{arith}
 use Rattle.replay.proofs.rounds.write_rounds.Statement.{statement}
 use Rattle.replay.proofs.rounds.write_rounds.Tie as tie
-use Rattle.replay.proofs.rounds.write_rounds.Reads as reads
-use Rattle.replay.proofs.rounds.write_rounds.Lts as lts
-use Rattle.replay.proofs.rounds.later.Reads as later-reads
-use Rattle.wire.proofs.put_word.Reads as put-word-reads
-use Rattle.wire.proofs.payload_byte.Reads as payload-byte-reads
 
 abbrev Inv-loop : tie.InvT-loop
 Inv-loop file count out₀ last₀ left₀ i₀ out last left i = Timing (fileBytes file) count out₀ i last left out
@@ -20,32 +15,20 @@ abbrev μ-loop : tie.MeasureT-loop
 loop-holds : tie.Need-loop-holds Inv-loop μ-loop
 loop-holds c = timing-start _ _ _
 
-mul-at : tie.Need-mul-at Inv-loop μ-loop
-mul-at c = search needs
+mul-payload-three : tie.Need-mul-payload-three Inv-loop μ-loop
+mul-payload-three c = search needs
 
-add-payload-byte : tie.Need-add-payload-byte Inv-loop μ-loop
-add-payload-byte c = search needs
+add-payload-three : tie.Need-add-payload-three Inv-loop μ-loop
+add-payload-three c = search needs
 
-payload-byte-requires : tie.Need-payload-byte-requires Inv-loop μ-loop
-payload-byte-requires c κs = search needs
+payload-three-requires : tie.Need-payload-three-requires Inv-loop μ-loop
+payload-three-requires c κs = search needs
 
 cast-r : tie.Need-cast-r Inv-loop μ-loop
 cast-r c = search needs
 
-add-payload-byte-2 : tie.Need-add-payload-byte-2 Inv-loop μ-loop
-add-payload-byte-2 c = search needs
-
-payload-byte-requires-2 : tie.Need-payload-byte-requires-2 Inv-loop μ-loop
-payload-byte-requires-2 c κs = search needs
-
 cast-u : tie.Need-cast-u Inv-loop μ-loop
 cast-u c = search needs
-
-add-payload-byte-3 : tie.Need-add-payload-byte-3 Inv-loop μ-loop
-add-payload-byte-3 c = search needs
-
-payload-byte-requires-3 : tie.Need-payload-byte-requires-3 Inv-loop μ-loop
-payload-byte-requires-3 c κs = search needs
 
 cast-v : tie.Need-cast-v Inv-loop μ-loop
 cast-v c = search needs
@@ -58,8 +41,8 @@ array-read-later c = search needs
 
 add-later : tie.Need-add-later Inv-loop μ-loop
 add-later c =
-    let k = c .before .before .before .before .loop .inv .kept in
-    omega (arith, entry-small _ _ _ _ k (c .before .before .payload-byte .result) (search needs))
+    let k = c .before .before .before .before .before .loop .inv .kept in
+    omega (arith, entry-small _ _ _ _ k (c .before .before .before .payload-three .result .first) (search needs))
 
 mul-later-2 : tie.Need-mul-later-2 Inv-loop μ-loop
 mul-later-2 c = search needs
@@ -99,11 +82,10 @@ loop-less c = search needs
 
 loop-again : tie.Need-loop-again Inv-loop μ-loop
 loop-again c =
-    let at = c .before .before .before .before .before .before .before .before .before in
-    timing-more _ _ _ (at .loop .i) _ _ _ (at .loop .last) (at .loop .left) (at .loop .out) _ _ (at .loop .inv) (search needs)
-    (c .before .before .before .before .before .before .before .payload-byte .ensures)
-    (c .before .before .before .before .before .before .payload-byte2 .ensures)
-    (c .before .before .before .before .before .payload-byte3 .ensures)
+    let at = c .before .before .before .before .before .before .before .before .before .before in
+    let x = c .before .before .before .before .before .before .before .before .payload-three in
+    let e = three-bytes (c .before .before .before .before .before .before .before .before .before .before .before .before .before .args .file .now) (at .loop .i) (x .result) (x .ensures) in
+    timing-more _ _ _ (at .loop .i) _ _ _ (at .loop .last) (at .loop .left) (at .loop .out) _ _ (at .loop .inv) (search needs) (e .0) (e .1) (e .2)
     (search needs)
     (search needs)
     (search needs)
@@ -123,15 +105,11 @@ write-rounds-spec =
     Inv-loop
     μ-loop
     loop-holds
-    mul-at
-    add-payload-byte
-    payload-byte-requires
+    mul-payload-three
+    add-payload-three
+    payload-three-requires
     cast-r
-    add-payload-byte-2
-    payload-byte-requires-2
     cast-u
-    add-payload-byte-3
-    payload-byte-requires-3
     cast-v
     mul-later
     array-read-later

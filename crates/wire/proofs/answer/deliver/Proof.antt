@@ -7,8 +7,11 @@ use borrow.Author.Needs.{needs}
 use Rattle.wire.proofs.answer.deliver.Statement.{statement}
 use Rattle.wire.proofs.answer.deliver.Tie as tie
 
-mul-if1 : tie.Need-mul-if1
-mul-if1 c = search needs
+mul-most : tie.Need-mul-most
+mul-most c = search needs
+
+mul-room : tie.Need-mul-room
+mul-room c = search needs
 
 zero-requires : tie.Need-zero-requires
 zero-requires c κs = search needs
@@ -43,8 +46,8 @@ returns-2 c =
 seal-requires : tie.Need-seal-requires
 seal-requires c κs = search needs
 
-cast-t18 : tie.Need-cast-t18
-cast-t18 c = search needs
+cast-t20 : tie.Need-cast-t20
+cast-t20 c = search needs
 
 same-length-3 : tie.Need-same-length-3
 same-length-3 c = search needs
@@ -59,16 +62,17 @@ pub deliver-spec : {M : Type 1} → statement M
 deliver-spec =
     tie.close
     (tie.spec
-    mul-if1
+    mul-most
+    mul-room
     zero-requires
     same-length
     returns
-    add-size
-    mul-size
     zero-requires-2
     same-length-2
     returns-2
+    add-size
+    mul-size
     seal-requires
-    cast-t18
+    cast-t20
     same-length-3
     returns-3)
