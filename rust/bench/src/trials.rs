@@ -1,7 +1,12 @@
-//! The inputs that are timed.
+//! What is timed.
 
 use reference::Answer;
-use writing::{move_list, Random, Walk, Yard, CLIQUE, HALL, RING};
+use writing::{move_list, Step, Yard, CLIQUE, HALL, RING};
+
+use crate::yards::{
+    all_shifting, far_turning, ferry, four_kinds, halls, large_clique, near_turning, one_shifting,
+    refilled, small_zones, walked,
+};
 
 /// Map, placing, plan or move list, and the buffer.
 pub type Writing = fn(&[u8], &[u8], &[u8], &mut [u8]) -> Answer;
@@ -15,7 +20,9 @@ const ROOM: usize = 65_536;
 
 /// One service of both implementations, its files and room.
 pub struct Trial {
-    pub name: &'static str,
+    pub name: String,
+    /// What the time is divided by to see whether it grows linearly.
+    pub units: Option<usize>,
     pub proved: Writing,
     pub rust: Writing,
     pub map: Vec<u8>,
@@ -26,60 +33,132 @@ pub struct Trial {
 
 /// All trials.
 pub fn trials() -> Vec<Trial> {
-    let mut trials = Vec::new();
+    let mut trials = walks();
+    trials.extend(plans());
+    trials.extend(endings());
+    trials.extend(refusals());
+    trials.extend(readings());
+    trials.extend(growth());
+    trials
+}
 
-    let (yard, moves) = walked(four_kinds());
-    trials.extend([
-        draw("draw 21,503 moves, four kinds of zone", &yard, &moves),
-        rounds("rounds of 21,503 moves, four kinds of zone", &yard, &moves),
-    ]);
-    trials.extend(plans(&yard, &moves));
+/// Move lists, and the plans drawn from them.
+fn walks() -> Vec<Trial> {
+    let (walk_yard, walk) = walked(four_kinds(), MOST_MOVES);
+    let (ferry_yard, ferry) = ferry();
+    [
+        ("21,503 moves, four kinds of zone", walk_yard, walk),
+        ("8,063 moves, each a step", ferry_yard, ferry),
+    ]
+    .into_iter()
+    .flat_map(|(name, yard, moves)| {
+        let plan = drawn(&yard, &moves);
+        [
+            draw(format!("draw {name}"), &yard, &moves),
+            rounds(format!("rounds of {name}"), &yard, &moves),
+            judge(format!("judge the plan of {name}"), &yard, &plan),
+            resolve(format!("resolve the plan of {name}"), &yard, &plan),
+        ]
+    })
+    .collect()
+}
 
+/// Judging and resolving. Where all carts shift or a ring turns far, the move
+/// list is too long.
+fn plans() -> Vec<Trial> {
+    [
+        ("8,000 hall steps, a cart shifting", one_shifting(8000)),
+        ("8,000 hall steps, all carts shifting", all_shifting(8000)),
+        ("894 clique steps, follow lists", refilled()),
+        ("8,000 ring steps, worst turning", far_turning(8000)),
+        ("200 ring steps, turning by a cart", near_turning(200)),
+        ("7,000 steps, 56 small zones", small_zones(7000)),
+    ]
+    .into_iter()
+    .flat_map(|(name, plan)| both(name, plan))
+    .collect()
+}
+
+/// Resolving a plan of no steps: a zone of 64 points is brought to its goals.
+fn endings() -> Vec<Trial> {
+    let ending = |name: &str, kind: u8, carts: u8, goal: fn(u8) -> u8| {
+        let points: Vec<u8> = (0..64).collect();
+        let carts: Vec<(u8, u8)> = (0..carts).map(|start| (start, goal(start))).collect();
+        let yard = Yard::new(&[(kind, &points)]).with(&carts);
+        let name = format!("resolve: a {name} of 64 to its goals");
+        resolve(name, &yard, &writing::plan(&[]))
+    };
+    vec![
+        ending("hall", HALL, 32, |start| start + 32),
+        ending("clique", CLIQUE, 63, |start| (start + 1) % 63),
+        ending("ring", RING, 32, |start| start + 32),
+    ]
+}
+
+/// Refusing at the first block, and after the last step.
+fn refusals() -> Vec<Trial> {
     let (yard, moves) = ferry();
-    trials.extend([
-        draw("draw 8,063 moves, each a step", &yard, &moves),
-        rounds("rounds of 8,063 moves, each a step", &yard, &moves),
-    ]);
-    trials.extend(plans(&yard, &moves));
+    let early = |room: usize, name: &str| {
+        let mut refused = rounds(name.to_string(), &yard, &moves);
+        refused.map[511] ^= 1;
+        Trial { room, ..refused }
+    };
+    let mut trials = vec![
+        early(ROOM, "refuse block 0 of the map, buffer 65,536"),
+        early(512, "refuse block 0 of the map, buffer 512"),
+    ];
+    let (mut yard, steps) = one_shifting(8000);
+    (yard.carts[0].1, yard.carts[1].1) = (yard.carts[1].1, yard.carts[0].1);
+    trials.extend(both("8,000 hall steps, refused late", (yard, steps)));
+    trials
+}
 
-    trials.extend([
-        ending("resolve: a hall of 64 to its goals", HALL, 32, |start| {
-            start + 32
-        }),
-        ending(
-            "resolve: a clique of 64 to its goals",
-            CLIQUE,
-            63,
-            |start| (start + 1) % 63,
+/// Reading the largest maps.
+fn readings() -> Vec<Trial> {
+    let readings = [
+        ("read the largest map, 64 halls", halls(128, MOST_EDGES)),
+        (
+            "read the largest map, clique of 64",
+            large_clique(MOST_EDGES),
         ),
-        ending("resolve: a ring of 64 to its goals", RING, 32, |start| {
-            start + 32
-        }),
-    ]);
+    ]
+    .map(|(name, yard)| read(name.to_string(), &yard));
+    for reading in &readings {
+        assert_eq!(reading.map.len(), 9 * 512);
+    }
+    readings.into()
+}
 
-    let mut refused = rounds("refuse block 0 of the map, buffer 65,536", &yard, &moves);
-    refused.map[511] ^= 1;
-    trials.push(refused);
-    let mut refused = rounds("refuse block 0 of the map, buffer 512", &yard, &moves);
-    refused.map[511] ^= 1;
-    refused.room = 512;
-    trials.push(refused);
-
-    for (name, yard) in [
-        ("read the largest map, 64 halls", most_zones()),
-        ("read the largest map, clique of 64", large_clique()),
-    ] {
-        let mut read = rounds(name, &yard, &[]);
-        assert_eq!(read.map.len(), 9 * 512);
-        read.room = 512;
-        trials.push(read);
+/// Time against size: steps, moves and points.
+fn growth() -> Vec<Trial> {
+    let sized = |units, trial: Trial| Trial {
+        name: format!("growth: {}", trial.name),
+        units: Some(units),
+        ..trial
+    };
+    let mut trials = Vec::new();
+    for steps in [1000, 2000, 4000, 8000] {
+        let judged_and_resolved = both(&format!("{steps} hall steps"), one_shifting(steps));
+        trials.extend(judged_and_resolved.map(|trial| sized(steps, trial)));
+    }
+    for count in [2500, 5000, 10_000, 20_000] {
+        let (yard, moves) = walked(four_kinds(), count);
+        let drawn = draw(format!("draw {count} moves"), &yard, &moves);
+        let rounds = rounds(format!("rounds of {count} moves"), &yard, &moves);
+        trials.extend([drawn, rounds].map(|trial| sized(count, trial)));
+    }
+    for points in [16, 32, 64, 128] {
+        let yard = halls(points, 7 * usize::from(points));
+        let read = read(format!("read {points} points, 7 edges each"), &yard);
+        trials.push(sized(usize::from(points), read));
     }
     trials
 }
 
-fn draw(name: &'static str, yard: &Yard, moves: &[[u8; 3]]) -> Trial {
+fn draw(name: String, yard: &Yard, moves: &[[u8; 3]]) -> Trial {
     Trial {
         name,
+        units: None,
         proved: library::draw,
         rust: reference::draw,
         map: yard.map(),
@@ -89,7 +168,7 @@ fn draw(name: &'static str, yard: &Yard, moves: &[[u8; 3]]) -> Trial {
     }
 }
 
-fn rounds(name: &'static str, yard: &Yard, moves: &[[u8; 3]]) -> Trial {
+fn rounds(name: String, yard: &Yard, moves: &[[u8; 3]]) -> Trial {
     Trial {
         proved: library::rounds,
         rust: reference::rounds,
@@ -97,108 +176,46 @@ fn rounds(name: &'static str, yard: &Yard, moves: &[[u8; 3]]) -> Trial {
     }
 }
 
-/// Judging and resolving the plan of a move list.
-fn plans(yard: &Yard, moves: &[[u8; 3]]) -> [Trial; 2] {
-    let plan = || {
-        let drawn = draw("", yard, moves);
-        let mut buffer = vec![0; ROOM];
-        let answer = reference::draw(&drawn.map, &drawn.placing, &drawn.input, &mut buffer);
-        buffer.truncate(answer.place as usize);
-        Trial {
-            input: buffer,
-            ..drawn
-        }
-    };
-    [
-        Trial {
-            name: "judge its plan",
-            proved: |map, placing, plan, _| library::judge(map, placing, plan),
-            rust: |map, placing, plan, _| reference::judge(map, placing, plan),
-            ..plan()
-        },
-        Trial {
-            name: "resolve its plan",
-            proved: library::resolve,
-            rust: reference::resolve,
-            ..plan()
-        },
-    ]
+/// The rounds of no moves: the map is nearly all that is read.
+fn read(name: String, yard: &Yard) -> Trial {
+    Trial {
+        room: 512,
+        ..rounds(name, yard, &[])
+    }
 }
 
-/// Resolving a plan of no steps: a zone of 64 points is brought to its goals.
-fn ending(name: &'static str, kind: u8, carts: u8, goal: fn(u8) -> u8) -> Trial {
-    let points: Vec<u8> = (0..64).collect();
-    let carts: Vec<(u8, u8)> = (0..carts).map(|start| (start, goal(start))).collect();
-    let yard = Yard::new(&[(kind, &points)]).with(&carts);
+fn judge(name: String, yard: &Yard, plan: &[u8]) -> Trial {
+    Trial {
+        proved: |map, placing, plan, _| library::judge(map, placing, plan),
+        rust: |map, placing, plan, _| reference::judge(map, placing, plan),
+        input: plan.to_vec(),
+        ..draw(name, yard, &[])
+    }
+}
+
+fn resolve(name: String, yard: &Yard, plan: &[u8]) -> Trial {
     Trial {
         proved: library::resolve,
         rust: reference::resolve,
-        input: writing::plan(&[]),
-        ..draw(name, &yard, &[])
+        input: plan.to_vec(),
+        ..draw(name, yard, &[])
     }
 }
 
-/// Two halls, a ring and a clique with tracks between them, 60 carts.
-fn four_kinds() -> Yard {
-    let points: Vec<u8> = (0..128).collect();
-    let mut yard = Yard::new(&[
-        (HALL, &points[..40]),
-        (RING, &points[40..80]),
-        (CLIQUE, &points[80..104]),
-        (HALL, &points[104..]),
-    ]);
-    yard.join_at_random(&mut Random::new(2), 60);
-    yard.place_at_random(&mut Random::new(3), 60);
-    yard
+/// Judging and resolving.
+fn both(name: &str, (yard, steps): (Yard, Vec<Step>)) -> [Trial; 2] {
+    let plan = writing::plan(&steps);
+    [
+        judge(format!("judge {name}"), &yard, &plan),
+        resolve(format!("resolve {name}"), &yard, &plan),
+    ]
 }
 
-/// A yard with the goals that a random walk of the most moves reaches.
-fn walked(mut yard: Yard) -> (Yard, Vec<[u8; 3]>) {
-    let mut random = Random::new(1);
-    let mut walk = Walk::new(&yard);
-    let mut moves = Vec::new();
-    while moves.len() < MOST_MOVES {
-        if let Some(next) = walk.find(&mut random) {
-            walk.make(next);
-            moves.push(next);
-        }
-    }
-    for (cart, &point) in yard.carts.iter_mut().zip(walk.points()) {
-        cart.1 = point;
-    }
-    (yard, moves)
-}
-
-/// One cart to and fro between two points, as many steps as a plan can have.
-fn ferry() -> (Yard, Vec<[u8; 3]>) {
-    let yard = Yard::new(&[(HALL, &[0]), (HALL, &[1])]).joined(&[(0, 1)]);
-    let there_and_back = [[0, 0, 1], [0, 1, 0]];
-    let moves = there_and_back.into_iter().cycle().take(8063).collect();
-    (yard.with(&[(0, 1)]), moves)
-}
-
-/// 64 halls of two points and the most edges.
-fn most_zones() -> Yard {
-    let points: Vec<u8> = (0..128).collect();
-    let halls: Vec<(u8, &[u8])> = points.chunks(2).map(|two| (HALL, two)).collect();
-    filled(Yard::new(&halls))
-}
-
-/// A clique of 64 points, as many single points, and the most edges.
-fn large_clique() -> Yard {
-    let points: Vec<u8> = (0..128).collect();
-    let mut zones = vec![(CLIQUE, &points[..64])];
-    zones.extend(points[64..].chunks(1).map(|one| (HALL, one)).take(62));
-    zones.push((HALL, &points[126..]));
-    filled(Yard::new(&zones))
-}
-
-/// A yard with tracks up to the most edges, and 64 carts.
-fn filled(mut yard: Yard) -> Yard {
-    let mut random = Random::new(4);
-    while yard.edges.len() < MOST_EDGES {
-        yard.join_at_random(&mut random, 1);
-    }
-    yard.place_at_random(&mut random, 64);
-    yard
+/// The plan of a move list.
+fn drawn(yard: &Yard, moves: &[[u8; 3]]) -> Vec<u8> {
+    let trial = draw(String::new(), yard, moves);
+    let mut buffer = vec![0; ROOM];
+    let answer = reference::draw(&trial.map, &trial.placing, &trial.input, &mut buffer);
+    buffer.truncate(answer.place as usize);
+    buffer
 }
