@@ -84,7 +84,7 @@ module _ (a b c : List ℕ) (bytes : Bytes c) (x : Answer) (e : x ≡ resolving 
       let r = resolves a b c 65536 judged in
       let p = cleared-plan a b c (r .0) bytes (r .1) in
       let w = r .2 .whole .0 zero-number in
-      let l : length (movesPayload (r .0)) ≤ 504 * 128 = payload-within 4 128 (movesPayload (r .0)) (omega (arith, theory.moves-length (r .0))) (w .0) in
+      let l : length (movesPayload (r .0)) ≤ 504 * 128 = payload-within 4 128 (movesPayload (r .0)) (w .0) in
       let room : (length (movesPayload (r .0)) + 503) / 504 * 512 ≤ 65536 = omega arith in
       let t = times a b (p .it) (r .0) 65536 (p .instance) (legal-all (p .concrete .legals), p .concrete .reached) (w .0) in
       let s : Within 128 (sheetFile (p .it) (r .0)) = sheetFits (p .it) (r .0) (w .0) in
