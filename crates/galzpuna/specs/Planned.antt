@@ -12,7 +12,7 @@ use Rattle.spec.specs.State.{moveBytes, movesPayload}
 use Rattle.spec.specs.Run.{resolvedMoves}
 use Rattle.spec.specs.Services as meaning
 use Rattle.spec.specs.Terms.{Bytes, zoneCount, kindOf, placeOf}
-use Rattle.theory.specs.Basics.Outcomes.{bind}
+use Rattle.theory.specs.Basics.Outcomes.{bind, never}
 use Rattle.theory.specs.Basics.Lists.{getD-default}
 use Rattle.theory.specs.Codec.Written.{written-bytes}
 use Rattle.theory.specs.Maps.Placing.{Placed}
@@ -22,12 +22,15 @@ use Rattle.layout.specs.declared.MapRead.{MapRead}
 use Rattle.placing.specs.declared.PlacingRead.{PlacingRead}
 use Rattle.wire.specs.Payload.{payload}
 use Rattle.wire.specs.Checked.{Whole}
-use Rattle.wire.specs.Laid.{laidAll}
-use Rattle.wire.specs.Delivered.{deliveredOf, delivered-counted}
+use Rattle.wire.specs.Laid.{laidAll, laid-length}
+use Rattle.wire.specs.Delivered.{deliveredOf, delivered-counted, delivered-over, fits-over}
 use Rattle.zones.specs.Tables.{Tables}
 use Rattle.resolve.specs.Given.{Given, Placement}
 use Rattle.resolve.specs.Fault.{faultOf}
-use Rattle.resolve.specs.Whole.{ResolvedTo}
+use Rattle.resolve.specs.Whole.{ResolvedTo, ResolvedOr}
+use Rattle.judge.specs.Judging.{JudgedTo}
+use mathlib.Core.Logic.{_⊎_, inl, inr, ⊎-elim}
+use mathlib.Core.Bool.{Bool, true, false}
 use Rattle.resolve.specs.declared.PlanFault.{PlanFault}
 use Rattle.resolve.specs.declared.PlanFault.the-variants as plan
 use Rattle.resolve.specs.declared.Resolved.{Resolved}
@@ -46,10 +49,17 @@ pub record Moves (a b c o₀ : List ℕ) (count : ℕ) (o : List ℕ) : Type 0 w
   pub counted : count ≡ length moves
   pub laid : o ≡ laidAll o₀ 2 (moveBytes moves)
 
+-- a list of at least `count` moves, which are more than one holds
+pub record Over (a b c : List ℕ) (count : ℕ) : Type 0 where
+  pub moves : List Move
+  pub resolved : meaning.planMoves a b c ≡ ok moves
+  pub most : count ≤ length moves
+  pub over : 21503 < count
+
 pub record PlannedIs (a b c o₀ : List ℕ) (r : Planned) (o : List ℕ) : Type 0 where
   pub refused : (r .refusal .number ≡ 0 → ⊥) → meaning.planMoves a b c ≡ refuse (r .refusal .number) (r .refusal .place)
   pub small : (r .refusal .number ≡ 0 → ⊥) → r .refusal .place < 65536
-  pub resolved : r .refusal .number ≡ 0 → Moves a b c o₀ (r .count) o
+  pub resolved : r .refusal .number ≡ 0 → Moves a b c o₀ (r .count) o ⊎ Over a b c (r .count)
   pub long : length o ≡ length o₀
 
 -- what judging the three files comes to: what resolving them would, with a buffer of no length
@@ -127,7 +137,7 @@ module _ (a b c o₀ : List ℕ) where
       read : payloadOf 30 3 64 c ≡ ok (take q (payload c))
       read = sym (e ∙ ec) ∙ refusal-none n q (take q (payload c)) z
 
-      plan-is : meaning.planMoves a b c ≡ refusalOr n₁ q₁ (t .moves)
+      pub plan-is : meaning.planMoves a b c ≡ refusalOr n₁ q₁ (t .moves)
       unfolding meaning.planMoves
       plan-is = bind _ _ _ (d .instance) ∙ bind _ _ _ read ∙ sym (t .answer) ∙ sym (e₁ (t .moves))
 
@@ -138,7 +148,48 @@ module _ (a b c o₀ : List ℕ) where
         small = λ h. small-at 65536 n₁ q₁ (resolvedMoves (d .it .graph) (d .it .placing) (take q (payload c)))
             (small-resolved (d .it .graph) (d .it .placing) (take q (payload c)) (written-bytes 30 3 64 c (take q (payload c)) hc read) (omega (arith, d .held .few, d .held .count)))
             (sym (t .answer) ∙ sym (e₁ (t .moves)) ∙ refusal-some n₁ q₁ (t .moves) h);
-        resolved = λ y. record { moves = t .moves; resolved = plan-is ∙ refusal-none n₁ q₁ (t .moves) y; counted = t .count (none y); laid = t .buffer (none y) };
+        resolved = λ y. inl (record { moves = t .moves; resolved = plan-is ∙ refusal-none n₁ q₁ (t .moves) y; counted = t .count (none y); laid = t .buffer (none y) });
+        long = t .long;
+      }
+
+module _ (a b c o₀ : List ℕ) (map : MapRead) (pl : PlacingRead) (rows : List (List ℕ)) (d : YardRead a b map pl rows) (hc : Bytes c) (o : Outcome (List ℕ)) (ec : o ≡ payloadOf 30 3 64 c)
+    (n q : ℕ) (e : movesFile n q c ≡ o) (z : n ≡ 0) (f : PlanFault) (j : JudgedTo (d .it .graph) (d .it .placing) (take q (payload c)) f) (n₀ q₀ : ℕ)
+    (e₀ : (ms : List Move) → refusalOr n₀ q₀ ms ≡ faultOf f ms) (none₀ : n₀ ≡ 0 → f ≡ plan.None) where
+  -- what judging says of the plan
+  pub planned-judged : JudgedIs a b c (record { number = n₀; place = q₀ })
+  planned-judged = record {
+    count = j .count;
+    buffer = j .buffer;
+    planned = planned-all a b c [] map pl rows d hc o ec n q e z (record { fault = f; over = false; count = j .count }) (j .buffer) (j .resolved) n₀ q₀ e₀ none₀;
+  }
+
+  -- it is not cleared
+  pub planned-refused : (n₀ ≡ 0 → ⊥) → PlannedIs a b c o₀ (record { refusal = record { number = n₀; place = q₀ }; count = 0 }) o₀
+  planned-refused h = record { refused = planned-judged .planned .refused; small = planned-judged .planned .small; resolved = λ y. absurd (h y); long = refl }
+
+  -- it is, and resolved as far as a list goes
+  pub planned-cleared : n₀ ≡ 0 → (r : Resolved) (p : List ℕ) → ResolvedOr (d .it .graph) (d .it .placing) (take q (payload c)) o₀ p r → (n₁ q₁ : ℕ)
+      → ((ms : List Move) → refusalOr n₁ q₁ ms ≡ faultOf (r .fault) ms) → (n₁ ≡ 0 → r .fault ≡ plan.None)
+      → PlannedIs a b c o₀ (record { refusal = record { number = n₁; place = q₁ }; count = r .count }) p
+  planned-cleared y r p t n₁ q₁ e₁ none₁ = go (r .over) refl
+    where
+      ms : List Move
+      ms = j .resolved .moves
+
+      listed : meaning.planMoves a b c ≡ ok ms
+      listed = plan-is a b c [] map pl rows d hc o ec n q e z (record { fault = f; over = false; count = j .count }) (j .buffer) (j .resolved) n₀ q₀ e₀ none₀ ∙ refusal-none n₀ q₀ ms y
+
+      go : (x : Bool) → r .over ≡ x → PlannedIs a b c o₀ (record { refusal = record { number = n₁; place = q₁ }; count = r .count }) p
+      go false x = planned-all a b c o₀ map pl rows d hc o ec n q e z r p (t .whole x) n₁ q₁ e₁ none₁
+      go true x = record {
+        refused = λ h. absurd (never (sym (refusal-some n₁ q₁ ms h) ∙ e₁ ms ∙ ap (λ (g : PlanFault). faultOf g ms) (t .none x)));
+        small = λ h. absurd (never (sym (refusal-some n₁ q₁ ms h) ∙ e₁ ms ∙ ap (λ (g : PlanFault). faultOf g ms) (t .none x)));
+        resolved = λ h. inr (record {
+          moves = ms;
+          resolved = listed;
+          most = t .part x .most ms (sym (j .resolved .answer) ∙ ap (λ (g : PlanFault). faultOf g ms) (none₀ y));
+          over = t .part x .over;
+        });
         long = t .long;
       }
 
@@ -150,9 +201,13 @@ module _ (a b c o₀ o : List ℕ) (r : Planned) (d : PlannedIs a b c o₀ r o) 
   unfolding meaning.judging meaning.answerOf
   judge-refused h = sym (ap (meaning.answerOf 0) (refused-bind (meaning.planMoves a b c) (λ ms. ok []) (r .refusal .number) (r .refusal .place) (d .refused h)))
 
+  -- the list of a plan that is cleared
+  listed : r .refusal .number ≡ 0 → (ms : List Move) × (meaning.planMoves a b c ≡ ok ms) × (r .count ≤ length ms)
+  listed h = ⊎-elim (λ (w : Moves a b c o₀ (r .count) o). (w .moves, w .resolved, omega (arith, w .counted))) (λ (w : Over a b c (r .count)). (w .moves, w .resolved, w .most)) (d .resolved h)
+
   pub judge-cleared : r .refusal .number ≡ 0 → _≡_ {A = meaning.Answer} (record { number = 0; value = 0; buffer = [] }) (meaning.judging a b c)
   unfolding meaning.judging meaning.answerOf
-  judge-cleared h = sym (ap (meaning.answerOf 0) (bind (meaning.planMoves a b c) (d .resolved h .moves) (λ ms. ok []) (d .resolved h .resolved)))
+  judge-cleared h = let w = listed h in sym (ap (meaning.answerOf 0) (bind (meaning.planMoves a b c) (w .0) (λ ms. ok []) (w .1)))
 
   pub resolve-refused : (r .refusal .number ≡ 0 → ⊥) → refusal (r .refusal .number) (r .refusal .place) o ≡ meaning.resolving a b c (length o₀)
   unfolding meaning.resolving meaning.answerOf
@@ -162,22 +217,41 @@ module _ (a b c o₀ o : List ℕ) (r : Planned) (d : PlannedIs a b c o₀ r o) 
 
   -- the count fits
   pub count-few : r .refusal .number ≡ 0 → r .count < 68719476736
-  count-few h = omega (arith, plan-bound a b c (d .resolved h .moves) (d .resolved h .resolved), d .resolved h .counted)
+  count-few h = let w = listed h in omega (arith, plan-bound a b c (w .0) (w .1), w .2)
 
   moves-bytes : (ms : List Move) → length (moveBytes ms) ≡ length ms * 3
   unfolding moveBytes
   moves-bytes [] = refl
   moves-bytes (m ∷ ms) = omega (arith, moves-bytes ms)
 
+  -- how long a list's payload is
+  payload-long : (ms : List Move) → length (u16 (length ms) ++ moveBytes ms) ≡ 2 + length ms * 3
+  unfolding u16
+  payload-long ms = omega (arith, moves-bytes ms)
+
   -- the list is counted and delivered
-  pub resolve-delivered : (h : r .refusal .number ≡ 0) (o₁ : List ℕ) (x : meaning.Answer) → o₁ ≡ laidAll o 0 (u16 (r .count)) → x ≡ deliveredOf 4 128 (2 + r .count * 3) o₁
+  whole-delivered : (w : Moves a b c o₀ (r .count) o) (o₁ : List ℕ) (x : meaning.Answer) → o₁ ≡ laidAll o 0 (u16 (r .count)) → x ≡ deliveredOf 4 128 (2 + r .count * 3) o₁
       → x ≡ meaning.resolving a b c (length o₀)
   unfolding movesPayload meaning.resolving
-  resolve-delivered h o₁ x e₁ ex =
-      let w = d .resolved h in
+  whole-delivered w o₁ x e₁ ex =
       let ms : List Move = w .moves in
       let ln : 2 + r .count * 3 ≡ length (u16 (length ms) ++ moveBytes ms) = omega (arith, moves-bytes ms, w .counted) in
       let ob : o₁ ≡ laidAll (laidAll o₀ (length (u16 (length ms))) (moveBytes ms)) 0 (u16 (length ms)) =
       e₁ ∙ ap₂ (λ (y : List ℕ) (i : ℕ). laidAll y 0 (u16 i)) (w .laid) (w .counted) in
       ex ∙ ap₂ (λ (i : ℕ) (y : List ℕ). deliveredOf 4 128 i y) ln ob ∙ delivered-counted 4 128 o₀ (u16 (length ms)) (moveBytes ms)
       ∙ sym (ap (meaning.answerOf (length o₀)) (bind (meaning.planMoves a b c) ms _ (w .resolved)))
+
+  -- a list that is too long is 61, however far it was worked out
+  over-delivered : (w : Over a b c (r .count)) (o₁ : List ℕ) (x : meaning.Answer) → o₁ ≡ laidAll o 0 (u16 (r .count)) → x ≡ deliveredOf 4 128 (2 + r .count * 3) o₁
+      → x ≡ meaning.resolving a b c (length o₀)
+  unfolding movesPayload meaning.resolving meaning.answerOf
+  over-delivered w o₁ x e₁ ex =
+      let ms : List Move = w .moves in
+      let l : length o₁ ≡ length o₀ = ap length e₁ ∙ laid-length o 0 (u16 (r .count)) ∙ d .long in
+      ex ∙ delivered-over 4 128 (2 + r .count * 3) o₁ (omega (arith, w .over))
+      ∙ ap {B = meaning.Answer} (λ (k : ℕ). record { number = 61; value = 0; buffer = replicate k 0 }) l
+      ∙ sym (ap (meaning.answerOf (length o₀)) (bind (meaning.planMoves a b c) ms _ (w .resolved) ∙ fits-over 4 128 (length o₀) (u16 (length ms) ++ moveBytes ms) (omega (arith, payload-long ms, w .over, w .most))))
+
+  pub resolve-delivered : (h : r .refusal .number ≡ 0) (o₁ : List ℕ) (x : meaning.Answer) → o₁ ≡ laidAll o 0 (u16 (r .count)) → x ≡ deliveredOf 4 128 (2 + r .count * 3) o₁
+      → x ≡ meaning.resolving a b c (length o₀)
+  resolve-delivered h o₁ x e₁ ex = ⊎-elim (λ (w : Moves a b c o₀ (r .count) o). whole-delivered w o₁ x e₁ ex) (λ (w : Over a b c (r .count)). over-delivered w o₁ x e₁ ex) (d .resolved h)

@@ -7,7 +7,7 @@ ghost use Rattle.spec.specs.Terms.{zoneCount};
 ghost use Rattle.theory.specs.Maps.Placing.{Placed};
 ghost use Rattle.wire.specs.Payload.{payload};
 ghost use Rattle.resolve.specs.Given.{Given, Placement};
-ghost use Rattle.resolve.specs.Whole.{ResolvedTo};
+ghost use Rattle.resolve.specs.Whole.{ResolvedOr};
 ghost use Rattle.galzpuna.specs.Opened.{OpenedIs, YardIs};
 ghost use Rattle.judge.specs.Judging.{JudgedTo};
 ghost use Rattle.galzpuna.specs.Planned.{PlannedIs, JudgedIs};
@@ -120,7 +120,7 @@ fn resolve_on(
 ) -> Resolved
     requires { ⌜ (len ≤ length (now plan) / 512 * 504) × (len ≤ 32256) ⌝ }
     requires { ⌜ Placement (m .vertices) (m .zones) (p .robots) (m .kind) (m .first) (m .size) listed (m .zone) (m .place) (now rows) (p .starts) (p .goals) ⌝ }
-    ensures { λ r. ⌜ ((x : Map) (y : Placing) → Given x (m .vertices) (p .robots) (m .kind) (m .first) (m .size) listed (m .zone) (m .place) (now (rows .entry)) → zoneCount x ≡ m .zones → Placed (x .size) y → y .starts ≡ take (p .robots) (p .starts) → y .goals ≡ take (p .robots) (p .goals) → ResolvedTo x y (take len (payload (now (plan .entry)))) (now (out .entry)) (now (out .exit)) r) ⌝ }
+    ensures { λ r. ⌜ ((x : Map) (y : Placing) → Given x (m .vertices) (p .robots) (m .kind) (m .first) (m .size) listed (m .zone) (m .place) (now (rows .entry)) → zoneCount x ≡ m .zones → Placed (x .size) y → y .starts ≡ take (p .robots) (p .starts) → y .goals ≡ take (p .robots) (p .goals) → ResolvedOr x y (take len (payload (now (plan .entry)))) (now (out .entry)) (now (out .exit)) r) ⌝ }
 {
     let kind = m.kind;
     let first = m.first;
@@ -148,7 +148,8 @@ fn resolve_on(
     )
 }
 
-// Reads map, placing and plan, and resolves the plan: its moves are laid into the buffer, after the two bytes of the count.
+// Reads map, placing and plan, judges the plan, and resolves it if it is cleared: its moves are laid into the buffer, after the two bytes of the
+// count, as far as a list goes.
 pub fn resolve_files(map: &[u8], placed: &[u8], plan: &[u8], out: &mut [u8]) -> Planned
     ensures { λ r. ⌜ PlannedIs (now (map .entry)) (now (placed .entry)) (now (plan .entry)) (now (out .entry)) r (now (out .exit)) ⌝ }
 {
@@ -172,6 +173,14 @@ pub fn resolve_files(map: &[u8], placed: &[u8], plan: &[u8], out: &mut [u8]) -> 
     let m = y.map;
     let p = y.placing;
     let listed = m.listed;
+    let judged = judge_on(plan, c.place, m, listed, &rows, p);
+    let e = refusals::of_plan(judged);
+    if e.number != 0 {
+        return Planned {
+            refusal: e,
+            count: 0,
+        };
+    }
     let r = resolve_on(plan, c.place, m, listed, &rows, p, out);
     let fault = r.fault;
     let d = refusals::of_plan(fault);

@@ -52,7 +52,7 @@ pub record JudgedWalk (m : Map) (k : ℕ) (p : List ℕ) (n : ℕ) (s₀ : State
 pub record JudgedTo (m : Map) (pl : Placing) (p : List ℕ) (f : PlanFault) : Type 0 where
   pub count : ℕ
   pub buffer : List ℕ
-  pub resolved : ResolvedTo m pl p [] buffer (record { fault = f; count = count })
+  pub resolved : ResolvedTo m pl p [] buffer (record { fault = f; over = false; count = count })
 
 module _ (m : Map) (n k : ℕ) (kind first size listed zone place : List ℕ) (rows : List (List ℕ)) (d : Given m n k kind first size listed zone place rows)
     (f : List ℕ) (len : ℕ) (most : len ≤ length f / 512 * 504) (count : ℕ) (s₀ : State) where
@@ -153,13 +153,14 @@ module _ (m : Map) (pl : Placing) (f : List ℕ) (len : ℕ) (most : len ≤ len
           → (q : PlanFault) → faultOf q tt ≡ goalsFrom 0 (m .zones) (d .world .state) g → JudgedTo m pl (take len (payload f)) q
       judged-goals a few small g eg z q x =
           let w : World = madeAll (d .world) (endingsFrom (m .zones) (d .world .state) g) in
-          let fin : FinishOf m g (d .world) (record { fault = q; count = w .count }) (w .buffer) = record {
+          let fin : FinishOf m g (d .world) (record { fault = q; over = false; count = w .count }) (w .buffer) = record {
             answer = x;
             reached = λ e. (w .state, refl);
             long = buffer-length (d .world) (endingsFrom (m .zones) (d .world .state) g);
+            whole = refl;
           } in
           record {
             count = w .count;
             buffer = w .buffer;
-            resolved = resolved-finish m pl f len most [] k n starts s h en l es ess next (d .world) (d .walked) a few small g eg z (record { fault = q; count = w .count }) (w .buffer) fin;
+            resolved = resolved-finish m pl f len most [] k n starts s h en l es ess next (d .world) (d .walked) a few small g eg z (record { fault = q; over = false; count = w .count }) (w .buffer) fin;
           }

@@ -100,6 +100,14 @@ pub record WalkOf (m : Map) (k : ℕ) (p : List ℕ) (n : ℕ) (w₀ : World) (f
   pub consistent : Consistent m k (w .state)
   pub answer : faultOf f (record { state = w .state; moves = moves; next = next }) ≡ stepsFrom m k p n 0 2 (w₀ .state)
 
+-- a walk that was given up, since more moves were made than a list holds: they come before all others
+pub record OverOf (m : Map) (k : ℕ) (p : List ℕ) (n : ℕ) (w₀ w : World) : Type 0 where
+  pub moves : List Move
+  pub rest : Outcome Ran
+  pub reached : w ≡ madeAll w₀ moves
+  pub all : stepsFrom m k p n 0 2 (w₀ .state) ≡ after moves rest
+  pub over : 21503 < w .count
+
 module _ (m : Map) (g : Accepted m) (k : ℕ) (few : k ≤ 64) (p : List ℕ) (n : ℕ) (w₀ : World) where
   -- nothing is walked yet
   pub walk-start : 2 ≤ length p → Consistent m k (w₀ .state) → Walking m k p n w₀ 0 2 w₀
@@ -147,6 +155,10 @@ module _ (m : Map) (g : Accepted m) (k : ℕ) (few : k ≤ 64) (p : List ℕ) (n
       consistent = d .consistent;
       answer = q _ ∙ sym (next h ∙ ap (after (d .moves)) (steps-refused m k p (n - (i + 1)) i o (w .state) a t) ∙ after-refused (d .moves) a i);
     }
+
+    -- too many moves were made
+    pub walk-over : 21503 < w .count → OverOf m k p n w₀ w
+    walk-over h = record { moves = d .moves; rest = stepsFrom m k p (n - i) i o (w .state); reached = d .reached; all = d .all; over = h }
 
     -- all steps passed
     pub walk-end : n ≤ i → WalkOf m k p n w₀ plan.None o w

@@ -5,7 +5,7 @@ use Prim.Native.Nat.{ℕ, _+_, _-_, _*_, _/_, _≤_, _<_}
 use native.Mathlib.Omega.{arith}
 use mathlib.Core.Logic.{⊎-elim}
 use types.Run.{OneOf}
-use lib.ListN.{length, take}
+use lib.ListN.{length, take, length-append}
 use lib.Seq.{length-take-le}
 use lib.Dec.{eqb}
 use borrow.Author.Tests.{lt-ltb, le-ltb, eq-eqb, ne-eqb}
@@ -26,7 +26,7 @@ use Rattle.wire.specs.Payload as wire
 use Rattle.wire.specs.Laid.{laidAll}
 use Rattle.motion.specs.World.{World, madeAll, made-append, count-is, buffer-is, buffer-length, mostMoves}
 use Rattle.resolve.specs.Fault.{faultOf}
-use Rattle.resolve.specs.Walk.{WalkOf}
+use Rattle.resolve.specs.Walk.{WalkOf, OverOf, after}
 use Rattle.theory.specs.Maps.Placing.{Placed}
 use Rattle.theory.specs.Maps.Consistent.{Consistent}
 use Rattle.theory.specs.Plans.Resolve.{start-tracks}
@@ -36,6 +36,9 @@ use Rattle.resolve.specs.Endings.{offZone, off-some, off-none}
 use Rattle.resolve.specs.declared.PlanFault.{PlanFault}
 use Rattle.resolve.specs.declared.PlanFault.the-variants as plan
 use Rattle.resolve.specs.declared.Resolved.{Resolved}
+use Rattle.resolve.specs.declared.Walked.{Walked}
+use mathlib.Core.Bool.{Bool, true, false}
+use Rattle.theory.specs.Basics.Outcomes.{bound, seq-ok, never, ok-injective}
 
 -- a two-byte number that is not all there
 word-short : (a : ℕ) (p : List ℕ) (o : ℕ) → length p ≤ o + 1 → wordAt a p o ≡ refuse a o
@@ -73,11 +76,42 @@ pub record ResolvedTo (m : Map) (pl : Placing) (p o₀ o : List ℕ) (r : Resolv
   pub buffer : r .fault ≡ plan.None → o ≡ laidAll o₀ 2 (moveBytes moves)
   pub long : length o ≡ length o₀
 
+-- a list of at least c moves, more than one holds
+pub record OverTo (m : Map) (pl : Placing) (p : List ℕ) (c : ℕ) : Type 0 where
+  pub over : 21503 < c
+  pub most : (ms : List Move) → resolvedMoves m pl p ≡ ok ms → c ≤ length ms
+
+-- true is not false
+bools : _≡_ {A = Bool} true false → ⊥
+bools q = let y : _≡_ {A = ℕ} 0 1 = cc in omega arith
+
+-- the same as ResolvedTo, or given up since the list is too long in any case
+pub record ResolvedOr (m : Map) (pl : Placing) (p o₀ o : List ℕ) (r : Resolved) : Type 0 where
+  pub whole : r .over ≡ false → ResolvedTo m pl p o₀ o r
+  pub part : r .over ≡ true → OverTo m pl p (r .count)
+  pub none : r .over ≡ true → r .fault ≡ plan.None
+  pub long : length o ≡ length o₀
+
+-- what a walk comes to, or that it was given up
+pub record WalkedTo (m : Map) (k : ℕ) (p : List ℕ) (n : ℕ) (w₀ : World) (q : Walked) (o : List ℕ) : Type 0 where
+  pub whole : q .over ≡ false → WalkOf m k p n w₀ (q .fault) (q .next) (worldOf (q .run) o)
+  pub part : q .over ≡ true → OverOf m k p n w₀ (worldOf (q .run) o)
+
+module _ (m : Map) (k : ℕ) (p : List ℕ) (n : ℕ) (w₀ : World) (q : Walked) (o : List ℕ) where
+  -- a walk to its end or a refusal
+  pub walked-whole : q .over ≡ false → WalkOf m k p n w₀ (q .fault) (q .next) (worldOf (q .run) o) → WalkedTo m k p n w₀ q o
+  walked-whole e x = record { whole = λ t. x; part = λ t. absurd (bools (sym t ∙ e)) }
+
+  -- a walk that was given up
+  pub walked-part : q .over ≡ true → OverOf m k p n w₀ (worldOf (q .run) o) → WalkedTo m k p n w₀ q o
+  walked-part e x = record { whole = λ t. absurd (bools (sym e ∙ t)); part = λ t. x }
+
 -- what testing the goals and reaching them comes to, from the world w₀
 pub record FinishOf (m : Map) (g : meaning.State) (w₀ : World) (r : Resolved) (o : List ℕ) : Type 0 where
   pub answer : faultOf (r .fault) tt ≡ goalsFrom 0 (m .zones) (w₀ .state) g
   pub reached : r .fault ≡ plan.None → (s : meaning.State) × (_≡_ {A = World} (record { state = s; count = r .count; buffer = o }) (madeAll w₀ (endingsFrom (m .zones) (w₀ .state) g)))
   pub long : length o ≡ length (w₀ .buffer)
+  pub whole : r .over ≡ false
 
 -- the world before the first move
 abbrev pub fresh : meaning.State → List ℕ → World
@@ -143,7 +177,7 @@ few-moves m g few pl p ms h e =
 
 module _ (m : Map) (pl : Placing) (f : List ℕ) (len : ℕ) (most : len ≤ length f / 512 * 504) (o₀ : List ℕ) where
   -- the payload ends before the count does
-  pub resolved-none : len < 2 → ResolvedTo m pl (take len (payload f)) o₀ o₀ (record { fault = plan.Short 0; count = 0 })
+  pub resolved-none : len < 2 → ResolvedTo m pl (take len (payload f)) o₀ o₀ (record { fault = plan.Short 0; over = false; count = 0 })
   resolved-none h = record {
     moves = [];
     answer = unfold p in none m pl f len most h;
@@ -159,7 +193,7 @@ module _ (m : Map) (pl : Placing) (f : List ℕ) (len : ℕ) (most : len ≤ len
 
     -- a refusal of the walk stands
     pub resolved-refused : (q : PlanFault) (next : ℕ) (w : World) → (q ≡ plan.None → ⊥) → WalkOf m k (take len (payload f)) n (fresh s o₀) q next w
-        → ResolvedTo m pl (take len (payload f)) o₀ (w .buffer) (record { fault = q; count = 0 })
+        → ResolvedTo m pl (take len (payload f)) o₀ (w .buffer) (record { fault = q; over = false; count = 0 })
     resolved-refused q next w z d = record {
       moves = [];
       answer = stands q z (d .answer);
@@ -181,13 +215,41 @@ module _ (m : Map) (pl : Placing) (f : List ℕ) (len : ℕ) (most : len ≤ len
         stands (plan.Enter i) z e = out 39 i e
         stands (plan.Goal i) z e = out 50 i e
 
+    -- the moves of a walk that was given up come before the others of any list
+    over-most : (rest : Outcome Ran) (moves ms : List Move) → resolvedOn m pl (take len (payload f)) n (after moves rest) ≡ ok ms → length moves ≤ length ms
+    unfolding resolvedOn after
+    over-most rest moves ms e =
+        let a = bound _ _ _ e in
+        let b = bound _ _ _ (a .1) in
+        let c = seq-ok _ _ _ (a .2) in
+        let x = seq-ok _ _ _ (c .2) in
+        let q = ok-injective (b .2) in
+        let y = ok-injective (x .2) in
+        omega (arith, ap length y, length-append (a .0 .moves) (endingsFrom (m .zones) (a .0 .state) (meaning.standing (pl .goals))), ap (λ (t : Ran). length (t .moves)) q, length-append moves (b .0 .moves))
+
+    -- a walk that was given up: any list is too long
+    pub resolved-over : Accepted m → zoneCount m ≤ 64 → len ≤ 32256 → (r : Resolved) (w : World) → r .over ≡ true → r .fault ≡ plan.None → r .count ≡ w .count
+        → OverOf m k (take len (payload f)) n (fresh s o₀) w → ResolvedOr m pl (take len (payload f)) o₀ (w .buffer) r
+    resolved-over a few small r w t z e d = record {
+      whole = λ q. absurd (bools (sym t ∙ q));
+      part = λ q. record { over = omega (arith, e, d .over); most = λ ms y. omega (arith, e, long ms y) };
+      none = λ q. z;
+      long = ap (λ (x : World). length (x .buffer)) (d .reached) ∙ buffer-length (fresh s o₀) (d .moves);
+    }
+      where
+        long : (ms : List Move) → resolvedMoves m pl (take len (payload f)) ≡ ok ms → w .count ≤ length ms
+        long ms y =
+            let h : length (d .moves) ≤ length ms = over-most (d .rest) (d .moves) ms (ap (resolvedOn m pl (take len (payload f)) n) (sym (d .all)) ∙ sym from ∙ y) in
+            let b : length ms ≤ mostMoves = few-moves m a few pl (take len (payload f)) ms (omega (arith, held-length f len most)) y in
+            omega (arith, ap (λ (x : World). x .count) (d .reached), count-is (fresh s o₀) (d .moves) (omega arith), h)
+
     module _ (next : ℕ) (w : World) (d : WalkOf m k (take len (payload f)) n (fresh s o₀) plan.None next w) where
       -- the walk passed, what is left are the surplus, the goals and the endings
       walked : resolvedMoves m pl (take len (payload f)) ≡ resolvedOn m pl (take len (payload f)) n (ok (record { state = w .state; moves = d .moves; next = next }))
       walked = from ∙ ap (resolvedOn m pl (take len (payload f)) n) (sym (d .answer))
 
       -- something follows the last step
-      pub resolved-surplus : (next ≡ len → ⊥) → ResolvedTo m pl (take len (payload f)) o₀ (w .buffer) (record { fault = plan.Short n; count = 0 })
+      pub resolved-surplus : (next ≡ len → ⊥) → ResolvedTo m pl (take len (payload f)) o₀ (w .buffer) (record { fault = plan.Short n; over = false; count = 0 })
       resolved-surplus z = record {
         moves = [];
         answer = sym (walked ∙ (unfold p in surplus m pl f len most n _ z));
@@ -228,11 +290,12 @@ module _ (m : Map) (pl : Placing) (f : List ℕ) (len : ℕ) (most : len ≤ len
 
 module _ (m : Map) (g : meaning.State) (w₀ : World) (z zones : ℕ) (e : offZone z zones ≡ goalsFrom 0 (m .zones) (w₀ .state) g) where
   -- a zone is off its goals
-  pub finish-off : z < zones → FinishOf m g w₀ (record { fault = plan.Goal z; count = 0 }) (w₀ .buffer)
+  pub finish-off : z < zones → FinishOf m g w₀ (record { fault = plan.Goal z; over = false; count = 0 }) (w₀ .buffer)
   finish-off h = record {
     answer = sym (off-some z zones h) ∙ e;
     reached = λ q. let y : _≡_ {A = ℕ} 0 1 = cc in absurd (omega arith);
     long = refl;
+    whole = refl;
   }
 
   -- the goals can be reached
@@ -240,11 +303,12 @@ module _ (m : Map) (g : meaning.State) (w₀ : World) (z zones : ℕ) (e : offZo
   finish-pass h = sym e ∙ off-none z zones h
 
   -- they are
-  pub finish-done : zones ≤ z → (q : Run) (o : List ℕ) → worldOf q o ≡ madeAll w₀ (endingsFrom (m .zones) (w₀ .state) g) → FinishOf m g w₀ (record { fault = plan.None; count = q .count }) o
+  pub finish-done : zones ≤ z → (q : Run) (o : List ℕ) → worldOf q o ≡ madeAll w₀ (endingsFrom (m .zones) (w₀ .state) g) → FinishOf m g w₀ (record { fault = plan.None; over = false; count = q .count }) o
   finish-done h q o x = record {
     answer = sym (finish-pass h);
     reached = λ _. (_, x);
     long = ap (λ (t : World). length (t .buffer)) x ∙ buffer-length w₀ (endingsFrom (m .zones) (w₀ .state) g);
+    whole = refl;
   }
 
 -- the starts of an accepted placing are consistent
@@ -259,3 +323,7 @@ start-consistent m g pl pd k starts s l es ess =
 pub other-fault : (x : ℕ) → OneOf (1 ∷ 2 ∷ 3 ∷ 4 ∷ 5 ∷ 6 ∷ []) x → x ≡ 0 → ⊥
 other-fault x h e =
     ⊎-elim (λ a. omega arith) (⊎-elim (λ a. omega arith) (⊎-elim (λ a. omega arith) (⊎-elim (λ a. omega arith) (⊎-elim (λ a. omega arith) (λ a. omega arith))))) h
+
+-- a plan that was resolved or refused in full
+pub in-full : (m : Map) (pl : Placing) (p o₀ o : List ℕ) (r : Resolved) → r .over ≡ false → ResolvedTo m pl p o₀ o r → ResolvedOr m pl p o₀ o r
+in-full m pl p o₀ o r e t = record { whole = λ q. t; part = λ q. absurd (bools (sym q ∙ e)); none = λ q. absurd (bools (sym q ∙ e)); long = t .long }

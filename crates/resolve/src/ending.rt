@@ -126,6 +126,7 @@ pub fn finish<'a>(
     if z < zones {
         return Resolved {
             fault: PlanFault::Goal(z),
+            over: false,
             count: 0,
         };
     }
@@ -133,6 +134,7 @@ pub fn finish<'a>(
     let count = q.count;
     Resolved {
         fault: PlanFault::None,
+        over: false,
         count: count,
     }
 }

@@ -34,15 +34,17 @@ pub enum PlanFault {
     Goal(usize),
 }
 
-// A plan resolved, with the number of moves made, or why not.
+// A plan resolved, with the number of moves made, or why not; or over: more moves were made than a list holds, and the rest was not worked out.
 pub struct Resolved {
     pub fault: PlanFault,
+    pub over: bool,
     pub count: usize,
 }
 
-// How far a walk came: why it stopped, the state and the count of moves that it reached, and the offset after the steps that passed.
+// How far a walk came: why it stopped, whether that was since more moves were made than a list holds, the state and the count of moves that it reached, and the offset after the steps that passed.
 pub struct Walked {
     pub fault: PlanFault,
+    pub over: bool,
     pub run: motion::Run,
     pub next: usize,
 }

@@ -7,7 +7,7 @@ ghost use Rattle.spec.specs.Terms.{zoneCount};
 ghost use Rattle.theory.specs.Maps.Placing.{Placed};
 ghost use Rattle.wire.specs.Payload.{payload};
 ghost use Rattle.resolve.specs.Given.{Given, Placement};
-ghost use Rattle.resolve.specs.Whole.{ResolvedTo};
+ghost use Rattle.resolve.specs.Whole.{ResolvedOr};
 use crate::PlanFault;
 use crate::Resolved;
 use crate::ending::finish;
@@ -34,11 +34,12 @@ pub fn resolve_plan<'a>(
 ) -> Resolved
     requires { ⌜ (len ≤ length (now file) / 512 * 504) × (len ≤ 32256) ⌝ }
     requires { ⌜ Placement n zones k (now kind) (now first) (now size) (now listed) (now zone) (now place) (now rows) starts goals ⌝ }
-    ensures { λ r. ⌜ ((m : Map) (pl : Placing) → Given m n k (now (kind .entry)) (now (first .entry)) (now (size .entry)) (now (listed .entry)) (now (zone .entry)) (now (place .entry)) (now (rows .entry)) → zoneCount m ≡ zones → Placed (m .size) pl → pl .starts ≡ take k starts → pl .goals ≡ take k goals → ResolvedTo m pl (take len (payload (now (file .entry)))) (now (out .entry)) (now (out .exit)) r) ⌝ }
+    ensures { λ r. ⌜ ((m : Map) (pl : Placing) → Given m n k (now (kind .entry)) (now (first .entry)) (now (size .entry)) (now (listed .entry)) (now (zone .entry)) (now (place .entry)) (now (rows .entry)) → zoneCount m ≡ zones → Placed (m .size) pl → pl .starts ≡ take k starts → pl .goals ≡ take k goals → ResolvedOr m pl (take len (payload (now (file .entry)))) (now (out .entry)) (now (out .exit)) r) ⌝ }
 {
     if len < 2 {
         return Resolved {
             fault: PlanFault::Short(0),
+            over: false,
             count: 0,
         };
     }
@@ -65,11 +66,19 @@ pub fn resolve_plan<'a>(
     let fault = w.fault;
     let next = w.next;
     let reached = w.run;
+    if w.over {
+        return Resolved {
+            fault: PlanFault::None,
+            over: true,
+            count: reached.count,
+        };
+    }
     match fault {
         PlanFault::None => {}
         _ => {
             return Resolved {
                 fault: fault,
+                over: false,
                 count: 0,
             };
         }
@@ -77,6 +86,7 @@ pub fn resolve_plan<'a>(
     if next != len {
         return Resolved {
             fault: PlanFault::Short(count),
+            over: false,
             count: 0,
         };
     }

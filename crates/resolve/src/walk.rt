@@ -8,7 +8,7 @@ ghost use Rattle.wire.specs.Payload.{payload};
 ghost use Rattle.motion.specs.States.{stateOf};
 ghost use Rattle.motion.specs.World.{worldOf};
 ghost use Rattle.resolve.specs.Given.{Given, Started};
-ghost use Rattle.resolve.specs.Walk.{WalkOf};
+ghost use Rattle.resolve.specs.Whole.{WalkedTo};
 ghost use Rattle.resolve.specs.Steps.{refusalOf};
 use crate::PlanFault;
 use crate::StepTest;
@@ -31,7 +31,7 @@ pub fn refusal_of(i: usize, t: StepTest) -> PlanFault
     }
 }
 
-// Walks `count` steps of the payload, of `len` bytes, that stands in a checked file, as long as they pass.
+// Walks `count` steps of the payload, of `len` bytes, that stands in a checked file, as long as they pass and the moves are not more than a list holds.
 pub fn walk<'a>(
     file: &[u8],
     len: usize,
@@ -50,12 +50,21 @@ pub fn walk<'a>(
 ) -> Walked
     requires { ⌜ (len ≤ length (now file) / 512 * 504) × (2 ≤ len) × (count < 65536) ⌝ }
     requires { ⌜ Started n k (now kind) (now first) (now size) (now listed) (now zone) (now place) (now rows) (stateOf (run .state)) ⌝ }
-    ensures { λ q. ⌜ ((m : Map) → Given m n k (now (kind .entry)) (now (first .entry)) (now (size .entry)) (now (listed .entry)) (now (zone .entry)) (now (place .entry)) (now (rows .entry)) → Consistent m k (stateOf (run .state)) → WalkOf m k (take len (payload (now (file .entry)))) count (worldOf run (now (out .entry))) (q .fault) (q .next) (worldOf (q .run) (now (out .exit)))) ⌝ }
+    ensures { λ q. ⌜ ((m : Map) → Given m n k (now (kind .entry)) (now (first .entry)) (now (size .entry)) (now (listed .entry)) (now (zone .entry)) (now (place .entry)) (now (rows .entry)) → Consistent m k (stateOf (run .state)) → WalkedTo m k (take len (payload (now (file .entry)))) count (worldOf run (now (out .entry))) q (now (out .exit))) ⌝ }
 {
     let mut run = run;
     let mut o: usize = 2;
     let mut i: usize = 0;
     while i < count {
+        let made = run.count;
+        if 21503 < made {
+            return Walked {
+                fault: PlanFault::None,
+                over: true,
+                run: run,
+                next: o,
+            };
+        }
         let s = run.state;
         let t = test_step(
             file,
@@ -82,6 +91,7 @@ pub fn walk<'a>(
             _ => {
                 return Walked {
                     fault: refusal_of(i, t),
+                    over: false,
                     run: run,
                     next: o,
                 };
@@ -90,6 +100,7 @@ pub fn walk<'a>(
     }
     Walked {
         fault: PlanFault::None,
+        over: false,
         run: run,
         next: o,
     }

@@ -3,7 +3,7 @@ use native.Mathlib.Omega.{arith}
 use mathlib.Core.Path.{sym}
 use mathlib.Core.List.{[]}
 use Rattle.wire.specs.Checked.{held-as}
-use Rattle.galzpuna.specs.Planned.{planned-yard, planned-file, planned-all, yard-given, yard-placement, len-few}
+use Rattle.galzpuna.specs.Planned.{planned-yard, planned-file, planned-judged, yard-given, yard-placement, len-few}
 use borrow.Author.Needs.{needs}
 use Rattle.galzpuna.proofs.files.judge_files.Statement.{statement}
 use Rattle.galzpuna.proofs.files.judge_files.Tie as tie
@@ -45,7 +45,7 @@ returns-3 c =
     let a = c .before .before .before .before .before .before .before .before .before .before .before .before .before .before .before .before .before .before .args in
     let d = c .before .before .before .before .before .before .before .before .before .before .before .before .before .read-yard .ensures .read (c .before .before .before .before .before .before .before .before .before .before .if1 .left) in
     let t = c .before .judge-on .ensures (d .it .graph) (d .it .placing) (yard-given _ _ _ _ _ d) (sym (d .held .count)) (d .placed) (sym (d .robots .starts)) (sym (d .robots .goals)) in
-    record { count = t .count; buffer = t .buffer; planned = planned-all (a .map .now) (a .placed .now) (a .plan .now) [] _ _ _ d (λ i. omega (arith, c .before .before .before .before .before .before .before .before .before .before .before .before .before .before .before .shared-slice-known3 .given i)) _ (c .before .before .before .before .before .before .before .before .before .check-file .ensures .0 30) (c .before .before .before .before .before .before .before .before .of-plan-file .result .number) (c .before .before .before .before .before .before .before .before .of-plan-file .result .place) (c .before .before .before .before .before .before .before .before .of-plan-file .ensures .0 _) (c .before .before .before .before .before .before .if2 .left) _ _ (t .resolved) (c .of-plan .result .number) (c .of-plan .result .place) (c .of-plan .ensures .0) (c .of-plan .ensures .1) }
+    planned-judged (a .map .now) (a .placed .now) (a .plan .now) [] _ _ _ d (λ i. omega (arith, c .before .before .before .before .before .before .before .before .before .before .before .before .before .before .before .shared-slice-known3 .given i)) _ (c .before .before .before .before .before .before .before .before .before .check-file .ensures .0 30) (c .before .before .before .before .before .before .before .before .of-plan-file .result .number) (c .before .before .before .before .before .before .before .before .of-plan-file .result .place) (c .before .before .before .before .before .before .before .before .of-plan-file .ensures .0 _) (c .before .before .before .before .before .before .if2 .left) _ t (c .of-plan .result .number) (c .of-plan .result .place) (c .of-plan .ensures .0) (c .of-plan .ensures .1)
 
 pub judge-files-spec : {M : Type 1} → statement M
 judge-files-spec =

@@ -1,7 +1,9 @@
+use borrow.Author.Needs.{needs}
 use Rattle.resolve.specs.Steps.{walking-offset, walking-step, walking-next, walking-stop, walking-passes, other-tag, refusalOf, stepping-room}
 use denote.Enum.Declared.{tagOf}
 use Rattle.resolve.proofs.StepTest.{the-type}
-use Rattle.resolve.specs.Walk.{Walking, walk-start, walk-end}
+use Rattle.resolve.specs.Walk.{Walking, walk-start, walk-end, walk-over}
+use Rattle.resolve.specs.Whole.{walked-whole, walked-part}
 use Rattle.resolve.specs.Given.{Given}
 use Rattle.theory.specs.Maps.Consistent.{Consistent}
 use Rattle.spec.specs.Layout.{Map}
@@ -12,13 +14,14 @@ use lib.ListN.{length, take}
 use Prim.Native.Nat.{_-_, _≤_}
 use native.Mathlib.Omega.{arith}
 use mathlib.Core.Path.{_≡_, refl, sym, ap}
-use borrow.Author.Needs.{needs}
 use Rattle.resolve.proofs.walk.walk.Statement.{statement}
 use Rattle.resolve.proofs.walk.walk.Tie as tie
+use Rattle.resolve.proofs.step.make_step.Reads as make-step-reads
+use Rattle.resolve.proofs.tests.test_step.Reads as test-step-reads
+use Rattle.resolve.proofs.walk.refusal_of.Reads as refusal-of-reads
 
 abbrev Inv-loop : tie.InvT-loop
-Inv-loop file len count kind first size listed zone place rows n k out₀ run₀ o₀ i₀ out run o i = (length out ≡ length out₀) × (i ≤ count)
-    × ((m : Map) → Given m n k kind first size listed zone place rows → Consistent m k (stateOf (run₀ .state)) → Walking m k (take len (payload file)) count (worldOf run₀ out₀) i o (worldOf run out))
+Inv-loop file len count kind first size listed zone place rows n k out₀ run₀ o₀ i₀ out run o i = (length out ≡ length out₀) × (i ≤ count) × ((m : Map) → Given m n k kind first size listed zone place rows → Consistent m k (stateOf (run₀ .state)) → Walking m k (take len (payload file)) count (worldOf run₀ out₀) i o (worldOf run out))
 
 abbrev μ-loop : tie.MeasureT-loop
 μ-loop file len count kind first size listed zone place rows n k out₀ run₀ o₀ i₀ out run o i = count - i
@@ -28,88 +31,107 @@ loop-holds c =
     let a = c .before .before .before .args in
     (refl, search needs, λ m d h. walk-start m (d .accepted) (a .k) (d .few) (take (a .len) (payload (a .file .now))) (a .count) (worldOf (a .run) (a .out .now)) (omega (arith, held-length (a .file .now) (a .len) (c .before .before .before .pre .0 .0))) h)
 
-test-step-requires : tie.Need-test-step-requires Inv-loop μ-loop
-test-step-requires c κs =
+same-length : tie.Need-same-length Inv-loop μ-loop
+same-length c =
+    c .before .before .loop .inv .0
+
+returns : tie.Need-returns Inv-loop μ-loop
+returns c =
+    λ m d h.
     let a = c .before .before .before .before .before .before .args in
     let l = c .before .before .loop in
-    let m = c .before .before .before .before .before .before .pre .1 .map in
-    let d = c .before .before .before .before .before .before .pre .1 .given in
-    let g = l .inv .2 m d (c .before .before .before .before .before .before .pre .1 .consistent) in
-    ((c .before .before .before .before .before .before .pre .0 .0, walking-offset m (a .n) (a .k) (a .kind .now) (a .first .now) (a .size .now) (a .listed .now) (a .zone .now) (a .place .now) (a .rows .now) d (a .file .now) (a .len) (c .before .before .before .before .before .before .pre .0 .0) (a .count) (worldOf (a .run) (a .out .now)) (l .i) (l .o) (worldOf (l .run) (l .out)) g), record { map = m; given = d })
+    walked-part _ _ _ _ _ _ _ refl (walk-over m (d .accepted) (a .k) (d .few) (take (a .len) (payload (a .file .now))) (a .count) (worldOf (a .run) (a .out .now)) (l .i) (l .o) (worldOf (l .run) (l .out)) (l .inv .2 m d h) (c .if1 .taken))
+
+test-step-requires : tie.Need-test-step-requires Inv-loop μ-loop
+test-step-requires c κs =
+    let a = c .before .before .before .before .before .before .before .args in
+    let l = c .before .before .before .loop in
+    let m = c .before .before .before .before .before .before .before .pre .1 .map in
+    let d = c .before .before .before .before .before .before .before .pre .1 .given in
+    let g = l .inv .2 m d (c .before .before .before .before .before .before .before .pre .1 .consistent) in
+    ((c .before .before .before .before .before .before .before .pre .0 .0, walking-offset m (a .n) (a .k) (a .kind .now) (a .first .now) (a .size .now) (a .listed .now) (a .zone .now) (a .place .now) (a .rows .now) d (a .file .now) (a .len) (c .before .before .before .before .before .before .before .pre .0 .0) (a .count) (worldOf (a .run) (a .out .now)) (l .i) (l .o) (worldOf (l .run) (l .out)) g), record { map = m; given = d })
 
 enum-known-t : tie.Need-enum-known-t Inv-loop μ-loop
-enum-known-t c = search needs
+enum-known-t c =
+    search needs
 
 add-next : tie.Need-add-next Inv-loop μ-loop
 add-next c =
-    let a = c .before .before .before .before .before .before .before .before .before .before .args in
-    let l = c .before .before .before .before .before .before .loop in
-    let m = c .before .before .before .before .before .before .before .before .before .before .pre .1 .map in
-    let d = c .before .before .before .before .before .before .before .before .before .before .pre .1 .given in
-    let g = l .inv .2 m d (c .before .before .before .before .before .before .before .before .before .before .pre .1 .consistent) in
-    let x = stepping-room (a .file .now) (l .o) _ (a .kind .now) (a .first .now) (a .size .now) (a .listed .now) (a .zone .now) (a .place .now) (stateOf (l .run .state)) (walking-step m (a .n) (a .k) (a .kind .now) (a .first .now) (a .size .now) (a .listed .now) (a .zone .now) (a .place .now) (a .rows .now) d (a .file .now) (a .len) (c .before .before .before .before .before .before .before .before .before .before .pre .0 .0) (a .count) (worldOf (a .run) (a .out .now)) (l .i) (l .o) (worldOf (l .run) (l .out)) g (c .before .before .before .test-step .result) (c .before .before .before .test-step .ensures m d (l .i)) _ (c .before .t .given .1)) in
-    search needs
-
-add-next-2 : tie.Need-add-next-2 Inv-loop μ-loop
-add-next-2 c =
-    let a = c .before .before .before .before .before .before .before .before .before .before .args in
-    let l = c .before .before .before .before .before .before .loop in
-    let m = c .before .before .before .before .before .before .before .before .before .before .pre .1 .map in
-    let d = c .before .before .before .before .before .before .before .before .before .before .pre .1 .given in
-    let g = l .inv .2 m d (c .before .before .before .before .before .before .before .before .before .before .pre .1 .consistent) in
-    let x = stepping-room (a .file .now) (l .o) _ (a .kind .now) (a .first .now) (a .size .now) (a .listed .now) (a .zone .now) (a .place .now) (stateOf (l .run .state)) (walking-step m (a .n) (a .k) (a .kind .now) (a .first .now) (a .size .now) (a .listed .now) (a .zone .now) (a .place .now) (a .rows .now) d (a .file .now) (a .len) (c .before .before .before .before .before .before .before .before .before .before .pre .0 .0) (a .count) (worldOf (a .run) (a .out .now)) (l .i) (l .o) (worldOf (l .run) (l .out)) g (c .before .before .before .test-step .result) (c .before .before .before .test-step .ensures m d (l .i)) _ (c .before .t .given .1)) in
-    search needs
-
-make-step-requires : tie.Need-make-step-requires Inv-loop μ-loop
-make-step-requires c κs =
     let a = c .before .before .before .before .before .before .before .before .before .before .before .args in
     let l = c .before .before .before .before .before .before .before .loop in
     let m = c .before .before .before .before .before .before .before .before .before .before .before .pre .1 .map in
     let d = c .before .before .before .before .before .before .before .before .before .before .before .pre .1 .given in
     let g = l .inv .2 m d (c .before .before .before .before .before .before .before .before .before .before .before .pre .1 .consistent) in
-    walking-step m (a .n) (a .k) (a .kind .now) (a .first .now) (a .size .now) (a .listed .now) (a .zone .now) (a .place .now) (a .rows .now) d (a .file .now) (a .len) (c .before .before .before .before .before .before .before .before .before .before .before .pre .0 .0) (a .count) (worldOf (a .run) (a .out .now)) (l .i) (l .o) (worldOf (l .run) (l .out)) g (c .before .before .before .before .test-step .result) (c .before .before .before .before .test-step .ensures m d (l .i)) _ (c .before .before .t .given .1)
+    let x = stepping-room (a .file .now) (l .o) _ (a .kind .now) (a .first .now) (a .size .now) (a .listed .now) (a .zone .now) (a .place .now) (stateOf (l .run .state)) (walking-step m (a .n) (a .k) (a .kind .now) (a .first .now) (a .size .now) (a .listed .now) (a .zone .now) (a .place .now) (a .rows .now) d (a .file .now) (a .len) (c .before .before .before .before .before .before .before .before .before .before .before .pre .0 .0) (a .count) (worldOf (a .run) (a .out .now)) (l .i) (l .o) (worldOf (l .run) (l .out)) g (c .before .before .before .test-step .result) (c .before .before .before .test-step .ensures m d (l .i)) _ (c .before .t .given .1)) in
+    search needs
+
+add-next-2 : tie.Need-add-next-2 Inv-loop μ-loop
+add-next-2 c =
+    let a = c .before .before .before .before .before .before .before .before .before .before .before .args in
+    let l = c .before .before .before .before .before .before .before .loop in
+    let m = c .before .before .before .before .before .before .before .before .before .before .before .pre .1 .map in
+    let d = c .before .before .before .before .before .before .before .before .before .before .before .pre .1 .given in
+    let g = l .inv .2 m d (c .before .before .before .before .before .before .before .before .before .before .before .pre .1 .consistent) in
+    let x = stepping-room (a .file .now) (l .o) _ (a .kind .now) (a .first .now) (a .size .now) (a .listed .now) (a .zone .now) (a .place .now) (stateOf (l .run .state)) (walking-step m (a .n) (a .k) (a .kind .now) (a .first .now) (a .size .now) (a .listed .now) (a .zone .now) (a .place .now) (a .rows .now) d (a .file .now) (a .len) (c .before .before .before .before .before .before .before .before .before .before .before .pre .0 .0) (a .count) (worldOf (a .run) (a .out .now)) (l .i) (l .o) (worldOf (l .run) (l .out)) g (c .before .before .before .test-step .result) (c .before .before .before .test-step .ensures m d (l .i)) _ (c .before .t .given .1)) in
+    search needs
+
+make-step-requires : tie.Need-make-step-requires Inv-loop μ-loop
+make-step-requires c κs =
+    let a = c .before .before .before .before .before .before .before .before .before .before .before .before .args in
+    let l = c .before .before .before .before .before .before .before .before .loop in
+    let m = c .before .before .before .before .before .before .before .before .before .before .before .before .pre .1 .map in
+    let d = c .before .before .before .before .before .before .before .before .before .before .before .before .pre .1 .given in
+    let g = l .inv .2 m d (c .before .before .before .before .before .before .before .before .before .before .before .before .pre .1 .consistent) in
+    walking-step m (a .n) (a .k) (a .kind .now) (a .first .now) (a .size .now) (a .listed .now) (a .zone .now) (a .place .now) (a .rows .now) d (a .file .now) (a .len) (c .before .before .before .before .before .before .before .before .before .before .before .before .pre .0 .0) (a .count) (worldOf (a .run) (a .out .now)) (l .i) (l .o) (worldOf (l .run) (l .out)) g (c .before .before .before .before .test-step .result) (c .before .before .before .before .test-step .ensures m d (l .i)) _ (c .before .before .t .given .1)
 
 add-i : tie.Need-add-i Inv-loop μ-loop
-add-i c = search needs
+add-i c =
+    search needs
 
 loop-less : tie.Need-loop-less Inv-loop μ-loop
-loop-less c = search needs
+loop-less c =
+    search needs
 
 loop-again : tie.Need-loop-again Inv-loop μ-loop
 loop-again c =
-    let a = c .before .before .before .before .before .before .before .before .before .before .before .before .before .before .args in
-    let l = c .before .before .before .before .before .before .before .before .before .before .loop in (
+    let a = c .before .before .before .before .before .before .before .before .before .before .before .before .before .before .before .args in
+    let l = c .before .before .before .before .before .before .before .before .before .before .before .loop in (
       search needs,
       search needs,
       λ m d h.
           let g = l .inv .2 m d h in
           let t = c .before .before .before .before .before .before .before .test-step .ensures m d (l .i) in
-          walking-next m (a .n) (a .k) (a .kind .now) (a .first .now) (a .size .now) (a .listed .now) (a .zone .now) (a .place .now) (a .rows .now) d (a .file .now) (a .len) (c .before .before .before .before .before .before .before .before .before .before .before .before .before .before .pre .0 .0) (a .count) (worldOf (a .run) (a .out .now)) (l .i) (l .o) (worldOf (l .run) (l .out)) g (c .before .before .before .before .before .before .before .test-step .result) t _ (c .before .before .before .before .before .t .given .1) _ (c .before .before .before .before .before .before .before .before .before .loop-test .taken)
-          (c .before .before .make-step .ensures m (a .n) (a .k) (a .len) (a .rows .now) d (g .consistent) (c .before .before .before .before .before .before .before .before .before .before .before .before .before .before .pre .0 .0) (walking-passes m (a .n) (a .k) (a .kind .now) (a .first .now) (a .size .now) (a .listed .now) (a .zone .now) (a .place .now) (a .rows .now) d (a .file .now) (a .len) (c .before .before .before .before .before .before .before .before .before .before .before .before .before .before .pre .0 .0) (a .count) (worldOf (a .run) (a .out .now)) (l .i) (l .o) (worldOf (l .run) (l .out)) g (c .before .before .before .before .before .before .before .test-step .result) t _ (c .before .before .before .before .before .t .given .1))),
+          walking-next m (a .n) (a .k) (a .kind .now) (a .first .now) (a .size .now) (a .listed .now) (a .zone .now) (a .place .now) (a .rows .now) d (a .file .now) (a .len) (c .before .before .before .before .before .before .before .before .before .before .before .before .before .before .before .pre .0 .0) (a .count) (worldOf (a .run) (a .out .now)) (l .i) (l .o) (worldOf (l .run) (l .out)) g (c .before .before .before .before .before .before .before .test-step .result) t _ (c .before .before .before .before .before .t .given .1) _ (c .before .before .before .before .before .before .before .before .before .before .loop-test .taken)
+          (c .before .before .make-step .ensures m (a .n) (a .k) (a .len) (a .rows .now) d (g .consistent) (c .before .before .before .before .before .before .before .before .before .before .before .before .before .before .before .pre .0 .0) (walking-passes m (a .n) (a .k) (a .kind .now) (a .first .now) (a .size .now) (a .listed .now) (a .zone .now) (a .place .now) (a .rows .now) d (a .file .now) (a .len) (c .before .before .before .before .before .before .before .before .before .before .before .before .before .before .before .pre .0 .0) (a .count) (worldOf (a .run) (a .out .now)) (l .i) (l .o) (worldOf (l .run) (l .out)) g (c .before .before .before .before .before .before .before .test-step .result) t _ (c .before .before .before .before .before .t .given .1))),
     )
 
 refusal-of-requires : tie.Need-refusal-of-requires Inv-loop μ-loop
-refusal-of-requires c κs = search needs
-
-same-length : tie.Need-same-length Inv-loop μ-loop
-same-length c = c .before .before .before .before .before .loop .inv .0
-
-returns : tie.Need-returns Inv-loop μ-loop
-returns c = λ m d h.
-    let a = c .before .before .before .before .before .before .before .before .before .args in
-    let l = c .before .before .before .before .before .loop in
-    let g = l .inv .2 m d h in
-    let r : refusalOf (l .i) (c .before .before .test-step .result) ≡ c .refusal-of .result = sym (c .refusal-of .ensures) in
-    rw (← r) (walking-stop m (a .n) (a .k) (a .kind .now) (a .first .now) (a .size .now) (a .listed .now) (a .zone .now) (a .place .now) (a .rows .now) d (a .file .now) (a .len) (c .before .before .before .before .before .before .before .before .before .pre .0 .0) (a .count) (worldOf (a .run) (a .out .now)) (l .i) (l .o) (worldOf (l .run) (l .out)) g (c .before .before .test-step .result) (c .before .before .test-step .ensures m d (l .i)) (λ e z. other-tag _ (c .before .match .keys2) (ap (tagOf the-type) z)) (c .before .before .before .before .loop-test .taken))
+refusal-of-requires c κs =
+    search needs
 
 same-length-2 : tie.Need-same-length-2 Inv-loop μ-loop
-same-length-2 c = c .before .loop .inv .0
+same-length-2 c =
+    c .before .before .before .before .before .before .loop .inv .0
 
 returns-2 : tie.Need-returns-2 Inv-loop μ-loop
-returns-2 c = λ m d h.
+returns-2 c =
+    λ m d h.
+    let a = c .before .before .before .before .before .before .before .before .before .before .args in
+    let l = c .before .before .before .before .before .before .loop in
+    let g = l .inv .2 m d h in
+    let r : refusalOf (l .i) (c .before .before .test-step .result) ≡ c .refusal-of .result = sym (c .refusal-of .ensures) in
+    walked-whole _ _ _ _ _ _ _ refl (rw (← r) (walking-stop m (a .n) (a .k) (a .kind .now) (a .first .now) (a .size .now) (a .listed .now) (a .zone .now) (a .place .now) (a .rows .now) d (a .file .now) (a .len) (c .before .before .before .before .before .before .before .before .before .before .pre .0 .0) (a .count) (worldOf (a .run) (a .out .now)) (l .i) (l .o) (worldOf (l .run) (l .out)) g (c .before .before .test-step .result) (c .before .before .test-step .ensures m d (l .i)) (λ e z. other-tag _ (c .before .match .keys2) (ap (tagOf the-type) z)) (c .before .before .before .before .before .loop-test .taken)))
+
+same-length-3 : tie.Need-same-length-3 Inv-loop μ-loop
+same-length-3 c =
+    c .before .loop .inv .0
+
+returns-3 : tie.Need-returns-3 Inv-loop μ-loop
+returns-3 c =
+    λ m d h.
     let a = c .before .before .before .before .before .args in
     let l = c .before .loop in
-    walk-end m (d .accepted) (a .k) (d .few) (take (a .len) (payload (a .file .now))) (a .count) (worldOf (a .run) (a .out .now)) (l .i) (l .o) (worldOf (l .run) (l .out)) (l .inv .2 m d h) (omega arith)
+    walked-whole _ _ _ _ _ _ _ refl (walk-end m (d .accepted) (a .k) (d .few) (take (a .len) (payload (a .file .now))) (a .count) (worldOf (a .run) (a .out .now)) (l .i) (l .o) (worldOf (l .run) (l .out)) (l .inv .2 m d h) (omega arith))
 
 pub walk-spec : {M : Type 1} → statement M
 walk-spec =
@@ -118,6 +140,8 @@ walk-spec =
     Inv-loop
     μ-loop
     loop-holds
+    same-length
+    returns
     test-step-requires
     enum-known-t
     add-next
@@ -127,7 +151,7 @@ walk-spec =
     loop-less
     loop-again
     refusal-of-requires
-    same-length
-    returns
     same-length-2
-    returns-2)
+    returns-2
+    same-length-3
+    returns-3)
