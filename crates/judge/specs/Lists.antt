@@ -7,6 +7,7 @@ use native.Mathlib.Decide.{ℕ-discrete, decLt}
 use lib.ListN.{length, getD, set, take, drop, length-append, length-set, length-drop, List·getD-append}
 use lib.Seq.{length-take-le, getD-take, getD-drop, getD-set-same, getD-set-other, ext-getD, getD-append-add}
 use Rattle.orders.specs.Orders.{without, putIn, turnedBy}
+use Rattle.orders.specs.Lengths.{without-length, put-length}
 
 -- the list l is put first, and what stands from element n on is left
 pub record Rewritten (p : List ℕ) (n : ℕ) (l : List ℕ) (q : List ℕ) : Type 0 where
@@ -57,10 +58,6 @@ shift-more p t i q h l s = record {
     case k b d (no n) = getD-set-other q i k _ 0 n ∙ s .over k b (omega arith)
 
 -- a list without an element, element by element
-pub without-length : (t : ℕ) (l : List ℕ) → t < length l → length (without t l) ≡ length l - 1
-unfolding without
-without-length t l h = rw (length-append (take t l) (drop (suc t) l), length-take-le t l (omega arith), length-drop (suc t) l) (omega arith)
-
 without-under : (t : ℕ) (l : List ℕ) (k : ℕ) → t < length l → k < t → getD (without t l) k 0 ≡ getD l k 0
 unfolding without
 without-under t l k h b = append-left (take t l) (drop (suc t) l) t k (length-take-le t l (omega arith)) b ∙ getD-take t l k 0 b
@@ -120,10 +117,6 @@ part-more p n i q z h l s = record {
     case k b d (no m) = getD-set-other q i (k + 1) _ 0 m ∙ s .over k (omega arith) d
 
 -- a list with an element more, element by element
-pub putIn-length : (t r : ℕ) (l : List ℕ) → t ≤ length l → length (putIn t r l) ≡ length l + 1
-unfolding putIn
-putIn-length t r l h = rw (length-append (take t l) (r ∷ drop t l), length-take-le t l h) (omega (arith, length-drop t l))
-
 put-under : (t r : ℕ) (l : List ℕ) (k : ℕ) → t ≤ length l → k < t → getD (putIn t r l) k 0 ≡ getD l k 0
 unfolding putIn
 put-under t r l k h b = append-left (take t l) (r ∷ drop t l) t k (length-take-le t l h) b ∙ getD-take t l k 0 b
@@ -153,7 +146,7 @@ part-all p n t r i q h l e s = record {
     long = length-take-le n p (omega arith)
 
     more : length (putIn t r (take n p)) ≡ n + 1
-    more = putIn-length t r (take n p) (omega (arith, long)) ∙ ap (λ (x : ℕ). x + 1) long
+    more = omega (arith, put-length t r (take n p), long)
 
     cut : length (take (length (putIn t r (take n p))) (set q i r)) ≡ length (putIn t r (take n p))
     cut = length-take-le _ (set q i r) (omega (arith, more, length-set q i r, s .long))

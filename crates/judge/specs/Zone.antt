@@ -20,7 +20,7 @@ use Rattle.hall.specs.Reach.{member-index}
 use Rattle.orders.specs.Orders.{without, putIn, entryIn, turnedBy, ringEntered, cliqueEntered, entered}
 use Rattle.orders.specs.Orders.{pinned, hallLeaves, leaveTest, sameMembers, listMet, cliqueEnters, ringEnters, hallEnters, enterTest, endTest}
 use Rattle.orders.specs.Lengths.{without-length, put-length}
-use Rattle.judge.specs.Lists.{Rewritten, turnedBy-length, stored-whole}
+use Rattle.judge.specs.Lists.{Rewritten, wider, turnedBy-length, stored-whole}
 
 -- what the search for a leaver, robot r of the n robots l, finds: its index where the test lets it out, n or more where not
 pub record LeaveFound (test : Bool) (r n : ℕ) (l : List ℕ) (q : ℕ) : Type 0 where
@@ -267,10 +267,6 @@ module _ (l : List ℕ) (r j : ℕ) (list : List ℕ) where
 
 -- ---- the list after an entry
 
--- what is put first among n is put first among more
-pub wider : (p : List ℕ) (n m : ℕ) (l q : List ℕ) → n ≤ m → Rewritten p n l q → Rewritten p m l q
-wider p n m l q h w = record { long = w .long; here = w .here; past = λ k b. w .past k (omega arith) }
-
 -- what is put first is an equal list
 pub put-as : (p : List ℕ) (n : ℕ) (l o q : List ℕ) → l ≡ o → Rewritten p n l q → Rewritten p n o q
 put-as p n l o q e w = rw e at w
@@ -414,5 +410,5 @@ turned-goals p g o n t z h i w =
     let all : take (length g) g ≡ g = take-all (length g) g (omega arith) in
     let at : t ≡ indexOf (getD (take n p) 0 0) g = i ∙ ap₂ indexOf (sym (getD-take n p 0 0 z)) all in
     let long : length (turnedBy t g) ≡ length g = turnedBy-length t g (omega (arith, at, index-le (getD (take n p) 0 0) g)) in
-    let v : Rewritten g (length (turnedBy t g)) (turnedBy t g) o = wider g (length g) _ _ o (omega (arith, long)) (put-as g (length g) _ _ o (ap (turnedBy t) all) w) in
+    let v : Rewritten g (length (turnedBy t g)) (turnedBy t g) o = wider _ (omega (arith, long)) (put-as g (length g) _ _ o (ap (turnedBy t) all) w) in
     ap (sameList (take n p)) (stored-whole g (turnedBy t g) o long v ∙ ap (λ (k : ℕ). turnedBy k g) at) ∙ turned-first (take n p) g (omega (arith, length-take-le n p h))

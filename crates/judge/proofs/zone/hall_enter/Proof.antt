@@ -4,7 +4,8 @@ use mathlib.Core.Path.{ap}
 use Prim.Native.Nat.{ℕ}
 use lib.ListN.{take}
 use Rattle.orders.specs.Orders.{putIn}
-use Rattle.judge.specs.Zone.{wider, put-as}
+use Rattle.judge.specs.Lists.{wider}
+use Rattle.judge.specs.Zone.{put-as}
 use borrow.Author.Needs.{needs}
 use Rattle.judge.proofs.zone.hall_enter.Statement.{statement}
 use Rattle.judge.proofs.zone.hall_enter.Tie as tie
@@ -23,7 +24,7 @@ same-length c = search needs
 returns : tie.Need-returns
 returns c =
     let a = c .before .before .before .before .before .before .before .args in
-    put-as _ _ _ _ _ (ap (λ (k : ℕ). putIn k (a .r) (take (a .n) (a .part .now))) (c .before .before .before .before .entry-index .ensures)) (wider _ _ (a .size) _ _ (omega (arith, c .before .before .before .before .before .before .before .pre)) (c .before .before .put-in .ensures))
+    put-as _ _ _ _ _ (ap (λ (k : ℕ). putIn k (a .r) (take (a .n) (a .part .now))) (c .before .before .before .before .entry-index .ensures)) (wider (a .size) (omega (arith, c .before .before .before .before .before .before .before .pre)) (c .before .before .put-in .ensures))
 
 pub hall-enter-spec : {M : Type 1} → statement M
 hall-enter-spec = tie.close (tie.spec entry-index-requires put-in-requires same-length returns)

@@ -3,7 +3,8 @@ use native.Mathlib.Omega.{arith}
 use Prim.Native.Nat.{_≤_}
 use lib.ListN.{take, length}
 use lib.Seq.{length-take-le}
-use Rattle.judge.specs.Zone.{wider, put-as, entry-most, ring-free, ring-filled}
+use Rattle.judge.specs.Lists.{wider}
+use Rattle.judge.specs.Zone.{put-as, entry-most, ring-free, ring-filled}
 use borrow.Author.Needs.{needs}
 use Rattle.judge.proofs.zone.ring_enter.Statement.{statement}
 use Rattle.judge.proofs.zone.ring_enter.Tie as tie
@@ -28,7 +29,7 @@ returns : tie.Need-returns
 returns c =
     let a = c .before .before .before .before .before .before .before .before .args in
     let h : a .n ≤ length (a .part .now) = omega (arith, c .before .before .before .before .before .before .before .before .pre) in
-    put-as _ _ _ _ _ (ring-free (take (a .n) (a .part .now)) (a .size) (a .r) (a .j) (a .behind) _ (λ z. c .if1 .taken (omega (arith, length-take-le (a .n) (a .part .now) h))) (c .before .before .before .before .before .entry-index .ensures)) (wider _ _ (a .size) _ _ (omega (arith, c .before .before .before .before .before .before .before .before .pre)) (c .before .before .before .put-in .ensures))
+    put-as _ _ _ _ _ (ring-free (take (a .n) (a .part .now)) (a .size) (a .r) (a .j) (a .behind) _ (λ z. c .if1 .taken (omega (arith, length-take-le (a .n) (a .part .now) h))) (c .before .before .before .before .before .entry-index .ensures)) (wider (a .size) (omega (arith, c .before .before .before .before .before .before .before .before .pre)) (c .before .before .before .put-in .ensures))
 
 turn-count-requires : tie.Need-turn-count-requires
 turn-count-requires c κs =
