@@ -1,5 +1,5 @@
 -- What a list of moves does to the state, the count and the buffer.
-use mathlib.Core.Path.{_≡_, refl, ap, ap₂, sym, _∙_}
+use mathlib.Core.Path.{_≡_, refl, ap, sym, _∙_}
 use Prim.Native.Nat.{ℕ, zero, suc, _+_, _-_, _*_, _/_, _<_, _≤_}
 use mathlib.Core.Bool.{Bool, true, false}
 use mathlib.Core.List.{List, [], _∷_, _++_, map}
@@ -9,10 +9,8 @@ use lib.Dec.{ltb}
 use borrow.Author.Tests.{lt-ltb, le-ltb}
 use Rattle.spec.specs.Arrangement.{Move, mv}
 use Rattle.spec.specs.State as meaning
-use Rattle.motion.specs.declared.State.{State}
-use Rattle.motion.specs.declared.Run.{Run}
-use Rattle.motion.specs.States.{stateOf}
-use Rattle.wire.specs.Laid.{laid, laidAll, laid-length, laid-out}
+use Rattle.motion.specs.Tables.{tabled}
+use Rattle.wire.specs.Laid.{laidAll, laid-length, laid-out}
 
 -- ---- the buffer
 
@@ -20,14 +18,10 @@ use Rattle.wire.specs.Laid.{laid, laidAll, laid-length, laid-out}
 unfoldable pub laidMove : List ℕ → ℕ → Move → List ℕ
 laidMove o n m = laidAll o (n * 3 + 2) (m .robot ∷ m .from ∷ m .to ∷ [])
 
--- three bytes, one after the other
-pub laid-move : (o o₁ o₂ o₃ : List ℕ) (n : ℕ) (m : Move)
-    → o₁ ≡ laid o (n * 3 + 2) (m .robot) → o₂ ≡ laid o₁ (n * 3 + 2 + 1) (m .from) → o₃ ≡ laid o₂ (n * 3 + 2 + 2) (m .to)
-    → o₃ ≡ laidMove o n m
+-- the three bytes, laid together
+pub laid-move : (o : List ℕ) (n : ℕ) (m : Move) → laidAll o (n * 3 + 2) (m .robot ∷ m .from ∷ m .to ∷ []) ≡ laidMove o n m
 unfolding laidMove
-laid-move o o₁ o₂ o₃ n m a b d =
-    let e : n * 3 + 2 + 2 ≡ n * 3 + 2 + 1 + 1 = omega arith in
-    d ∙ ap₂ (λ (l : List ℕ) (k : ℕ). laid l k (m .to)) (b ∙ ap (λ (l : List ℕ). laid l (n * 3 + 2 + 1) (m .from)) a) e
+laid-move o n m = refl
 
 -- a move that begins past the end of the buffer changes nothing
 pub laid-move-past : (o : List ℕ) (n : ℕ) (m : Move) → length o / 3 ≤ n → o ≡ laidMove o n m
@@ -62,8 +56,9 @@ pub record World : Type 0 where
 abbrev pub world : meaning.State → ℕ → List ℕ → World
 world s n o = record { state = s; count = n; buffer = o }
 
-abbrev pub worldOf : Run → List ℕ → World
-worldOf r o = record { state = stateOf (r .state); count = r .count; buffer = o }
+-- the same, the state in its two tables
+abbrev pub worldIn : List ℕ → List ℕ → ℕ → List ℕ → World
+worldIn robots vertices n o = world (tabled robots vertices) n o
 
 -- a move is made, counted and written
 unfoldable pub made : World → Move → World
@@ -76,11 +71,10 @@ madeAll w [] = w
 madeAll w (m ∷ ms) = madeAll (made w m) ms
 
 -- what make leaves: the state moved, one more, and three bytes put
-pub make-leaves : (s : State) (n k : ℕ) (m : Move) (o p : List ℕ) (q : State)
-    → stateOf q ≡ meaning.moved (stateOf s) m → p ≡ laidMove o n m → k ≡ oneMore n
-    → worldOf (record { state = q; count = k }) p ≡ made (worldOf (record { state = s; count = n }) o) m
+pub make-leaves : (s t : meaning.State) (n k : ℕ) (m : Move) (o p : List ℕ)
+    → t ≡ meaning.moved s m → p ≡ laidMove o n m → k ≡ oneMore n → world t k p ≡ made (world s n o) m
 unfolding made
-make-leaves s n k m o p q e b d = rw (d, b) (ap (λ (x : meaning.State). world x (oneMore n) (laidMove o n m)) e)
+make-leaves s t n k m o p e b d = rw (d, b) (ap (λ (x : meaning.State). world x (oneMore n) (laidMove o n m)) e)
 
 -- lists one after the other are made one after the other
 pub made-append : (w : World) (ms ns : List Move) → madeAll w (ms ++ ns) ≡ madeAll (madeAll w ms) ns

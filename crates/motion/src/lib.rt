@@ -5,8 +5,8 @@ ghost use lib.ListN.{length, set, getD, take};
 ghost use Rattle.spec.specs.Arrangement.{mv, seek, apply};
 ghost use Rattle.spec.specs.State.{robotOn, arrangementOf, acrossMove, cellOf};
 ghost use Rattle.motion.specs.States.{stateOf, stood, movedBy};
-ghost use Rattle.motion.specs.Tables.{tabled};
-ghost use Rattle.motion.specs.World.{worldOf, made, laidMove, oneMore};
+ghost use Rattle.motion.specs.Tables.{tabled, onVertices};
+ghost use Rattle.motion.specs.World.{worldIn, made, laidMove, oneMore};
 ghost use Rattle.motion.specs.Cells.{overlaid};
 
 mod reading;
@@ -18,18 +18,12 @@ pub use reading::place_of;
 pub use reading::robot_at;
 pub use reading::seek_robot;
 pub use reading::stands;
-use wire::put_byte;
+use wire::put_three;
 
 // The robot on each vertex and the vertex of each robot; 255 is no robot, and no vertex.
 pub struct State {
     pub robots: [Robot; 128],
     pub vertices: [Vertex; 64],
-}
-
-// A state, and how many moves were made to reach it.
-pub struct Run {
-    pub state: State,
-    pub count: usize,
 }
 
 // The lesser of two numbers.
@@ -83,17 +77,6 @@ pub fn moved(s: State, r: Robot, from: Vertex, to: Vertex) -> State
         t.vertices[robot] = to;
     }
     t
-}
-
-// The robot on a vertex.
-pub fn robot_on(s: State, v: Vertex) -> Robot
-    ensures { λ r. ⌜ r .0 ≡ robotOn (stateOf s) (v .0) ⌝ }
-{
-    let i = v.0 as usize;
-    if i < 128 {
-        return s.robots[i];
-    }
-    Robot(255)
 }
 
 // The vertex of a robot.
@@ -153,6 +136,13 @@ pub fn robot_in(robots: &[u8], v: Vertex) -> u8
     255
 }
 
+// The robot on a vertex, by its number type, in the lent table.
+pub fn robot_on(robots: &[u8], v: Vertex) -> Robot
+    ensures { λ r. ⌜ r .0 ≡ robotOn (onVertices (now (robots .entry))) (v .0) ⌝ }
+{
+    Robot(robot_in(robots, v))
+}
+
 // The vertex of a robot, in the lent table.
 pub fn vertex_in(vertices: &[u8], r: Robot) -> u8
     ensures { λ v. ⌜ v ≡ getD (now (vertices .entry)) (r .0) 255 ⌝ }
@@ -169,10 +159,7 @@ fn put_move(out: &mut [u8], n: usize, r: Robot, from: Vertex, to: Vertex)
     ensures { λ q. ⌜ now (out .exit) ≡ laidMove (now (out .entry)) n (mv (r .0) (from .0) (to .0)) ⌝ }
 {
     if n < out.len() / 3 {
-        let at = n * 3 + 2;
-        put_byte(out, at, r.0);
-        put_byte(out, at + 1, from.0);
-        put_byte(out, at + 2, to.0);
+        put_three(out, n * 3 + 2, r.0, from.0, to.0);
     }
 }
 
@@ -185,16 +172,21 @@ fn one_more(n: usize) -> usize
     n
 }
 
-// A move is made, counted and written.
-pub fn make(run: Run, r: Robot, from: Vertex, to: Vertex, out: &mut [u8]) -> Run
-    ensures { λ q. ⌜ worldOf q (now (out .exit)) ≡ made (worldOf run (now (out .entry))) (mv (r .0) (from .0) (to .0)) ⌝ }
+// A move is made in the lent tables of a state, counted and written.
+pub fn make(
+    robots: &mut [u8],
+    vertices: &mut [u8],
+    count: usize,
+    r: Robot,
+    from: Vertex,
+    to: Vertex,
+    out: &mut [u8],
+) -> usize
+    ensures { λ k. ⌜ worldIn (now (robots .exit)) (now (vertices .exit)) k (now (out .exit)) ≡ made (worldIn (now (robots .entry)) (now (vertices .entry)) count (now (out .entry))) (mv (r .0) (from .0) (to .0)) ⌝ }
 {
-    let s = run.state;
-    let n = run.count;
-    let t = moved(s, r, from, to);
-    put_move(out, n, r, from, to);
-    let k = one_more(n);
-    Run { state: t, count: k }
+    shift(robots, vertices, r, from, to);
+    put_move(out, count, r, from, to);
+    one_more(count)
 }
 
 // The vertex at a place of a zone.
@@ -251,13 +243,13 @@ pub fn cell_of(r: Robot) -> u8
 }
 
 // The arrangement of a zone, as far as the cells go.
-pub fn cells_of(s: State, zone: &[u8], cells: &mut [u8])
-    ensures { λ q. ⌜ now (cells .exit) ≡ overlaid (arrangementOf (stateOf s) (now (zone .entry))) (now (cells .entry)) ⌝ }
+pub fn cells_of(robots: &[u8], zone: &[u8], cells: &mut [u8])
+    ensures { λ q. ⌜ now (cells .exit) ≡ overlaid (arrangementOf (onVertices (now (robots .entry))) (now (zone .entry))) (now (cells .entry)) ⌝ }
 {
     let n = least(zone.len(), cells.len());
     let mut k: usize = 0;
     while k < n {
-        let r = robot_on(s, Vertex(zone[k]));
+        let r = robot_on(robots, Vertex(zone[k]));
         cells[k] = cell_of(r);
         k += 1;
     }
@@ -272,15 +264,25 @@ fn robot_of(x: u8) -> Robot
     Robot(x - 1)
 }
 
-// The robot of cell x goes from place i of a zone to place j, in the state and in the lent arrangement.
-pub fn go(run: Run, zone: &[u8], cells: &mut [u8], x: u8, i: usize, j: usize, out: &mut [u8]) -> Run
-    ensures { λ q. ⌜ worldOf q (now (out .exit)) ≡ made (worldOf run (now (out .entry))) (acrossMove (now (zone .entry)) (mv (x - 1) i j)) ⌝ }
-    ensures { λ q. ⌜ now (cells .exit) ≡ apply (now (cells .entry)) (mv (x - 1) i j) ⌝ }
+// The robot of cell x goes from place i of a zone to place j, in the lent tables and in the lent arrangement.
+pub fn go(
+    robots: &mut [u8],
+    vertices: &mut [u8],
+    count: usize,
+    zone: &[u8],
+    cells: &mut [u8],
+    x: u8,
+    i: usize,
+    j: usize,
+    out: &mut [u8],
+) -> usize
+    ensures { λ k. ⌜ worldIn (now (robots .exit)) (now (vertices .exit)) k (now (out .exit)) ≡ made (worldIn (now (robots .entry)) (now (vertices .entry)) count (now (out .entry))) (acrossMove (now (zone .entry)) (mv (x - 1) i j)) ⌝ }
+    ensures { λ k. ⌜ now (cells .exit) ≡ apply (now (cells .entry)) (mv (x - 1) i j) ⌝ }
 {
     let r = robot_of(x);
     let v = vertex_at(zone, i);
     let w = vertex_at(zone, j);
     put_cell(cells, i, 0);
     put_cell(cells, j, r.0 + 1);
-    make(run, r, v, w, out)
+    make(robots, vertices, count, r, v, w, out)
 }

@@ -4,8 +4,9 @@ use mathlib.Core.List.{List}
 use native.Mathlib.Numerals.{add-one}
 use lib.ListN.{set}
 use Rattle.spec.specs.Arrangement.{mv}
-use Rattle.motion.specs.World.{worldOf, made}
+use Rattle.motion.specs.World.{worldIn, made}
 use Rattle.motion.specs.Across.{across-move}
+use borrow.Author.Needs.{needs}
 use borrow.Author.Needs.{needs}
 use Rattle.motion.proofs.go.Statement.{statement}
 use Rattle.motion.proofs.go.Tie as tie
@@ -16,52 +17,60 @@ use Rattle.motion.proofs.put_cell.Reads as put-cell-reads
 use Rattle.motion.proofs.robot_of.Reads as robot-of-reads
 use Rattle.motion.proofs.vertex_at.Reads as vertex-at-reads
 
--- src/lib.rt:233:9
+-- src/lib.rt:282:9
 robot-of-requires : tie.Need-robot-of-requires
 robot-of-requires c κs = search needs
 
--- src/lib.rt:234:9
+-- src/lib.rt:283:9
 vertex-at-requires : tie.Need-vertex-at-requires
 vertex-at-requires c κs = search needs
 
--- src/lib.rt:235:9
+-- src/lib.rt:284:9
 vertex-at-requires-2 : tie.Need-vertex-at-requires-2
 vertex-at-requires-2 c κs = search needs
 
--- src/lib.rt:236:5
+-- src/lib.rt:285:5
 put-cell-requires : tie.Need-put-cell-requires
 put-cell-requires c κs = search needs
 
--- src/lib.rt:237:24
+-- src/lib.rt:286:24
 add-put-cell : tie.Need-add-put-cell
 add-put-cell c = search needs
 
--- src/lib.rt:237:5
+-- src/lib.rt:286:5
 put-cell-requires-2 : tie.Need-put-cell-requires-2
 put-cell-requires-2 c κs = search needs
 
--- src/lib.rt:238:5
+-- src/lib.rt:287:5
 make-requires : tie.Need-make-requires
 make-requires c κs = search needs
 
--- src/lib.rt:229:1
+-- src/lib.rt:268:1
 same-length : tie.Need-same-length
 same-length c = search needs
 
--- src/lib.rt:229:1
+-- src/lib.rt:268:1
 same-length-2 : tie.Need-same-length-2
 same-length-2 c = search needs
 
--- src/lib.rt:229:1
+-- src/lib.rt:268:1
+same-length-3 : tie.Need-same-length-3
+same-length-3 c = search needs
+
+-- src/lib.rt:268:1
+same-length-4 : tie.Need-same-length-4
+same-length-4 c = search needs
+
+-- src/lib.rt:268:1
 returns : tie.Need-returns
 returns c =
-    let a = c .before .before .before .before .before .before .before .before .before .before .before .before .before .before .before .before .before .before .before .args in
-    let r : c .before .before .before .before .before .before .before .before .before .before .before .before .before .before .before .robot-of .result .0 ≡ a .x - 1 = c .before .before .before .before .before .before .before .before .before .before .before .before .before .before .before .robot-of .ensures in (
-      c .before .before .make .ensures
-          ∙ ap (made (worldOf (a .run) (a .out .now)))
-          (across-move (a .zone .now) _ (a .x - 1) (a .i) (a .j) _ _ r (c .before .before .before .before .before .before .before .before .before .before .before .before .before .before .vertex-at .ensures) (c .before .before .before .before .before .before .before .before .before .before .before .before .before .vertex-at2 .ensures)),
-      c .before .before .before .before .before .before .put-cell2 .ensures
-          ∙ ap₂ (λ (l : List ℕ) (n : ℕ). set l (a .j) n) (c .before .before .before .before .before .before .before .before .before .before .before .put-cell .ensures) (add-one _ ∙ ap suc r),
+    let a = c .before .before .before .before .before .before .before .before .before .before .before .before .before .before .before .before .before .before .before .before .before .before .before .before .before .before .before .args in
+    let r : c .before .before .before .before .before .before .before .before .before .before .before .before .before .before .before .before .before .before .before .before .before .robot-of .result .0 ≡ a .x - 1 = c .before .before .before .before .before .before .before .before .before .before .before .before .before .before .before .before .before .before .before .before .before .robot-of .ensures in (
+      c .before .before .before .before .before .before .make .ensures
+          ∙ ap (made (worldIn (a .robots .now) (a .vertices .now) (a .count) (a .out .now)))
+          (across-move (a .zone .now) _ (a .x - 1) (a .i) (a .j) _ _ r (c .before .before .before .before .before .before .before .before .before .before .before .before .before .before .before .before .before .before .before .before .vertex-at .ensures) (c .before .before .before .before .before .before .before .before .before .before .before .before .before .before .before .before .before .before .before .vertex-at2 .ensures)),
+      c .before .before .before .before .before .before .before .before .before .before .before .before .put-cell2 .ensures
+          ∙ ap₂ (λ (l : List ℕ) (n : ℕ). set l (a .j) n) (c .before .before .before .before .before .before .before .before .before .before .before .before .before .before .before .before .before .put-cell .ensures) (add-one _ ∙ ap suc r),
     )
 
 pub go-spec : {M : Type 1} → statement M
@@ -77,4 +86,6 @@ go-spec =
     make-requires
     same-length
     same-length-2
+    same-length-3
+    same-length-4
     returns)

@@ -4,49 +4,60 @@ use mathlib.Core.Path.{_≡_, refl, _∙_}
 use lib.ListN.{length, drop}
 use Rattle.spec.specs.Arrangement.{full}
 use Rattle.spec.specs.State.{arrangementOf}
-use Rattle.motion.specs.States.{stateOf}
+use Rattle.motion.specs.Tables.{onVertices}
 use Rattle.motion.specs.Reading.{full-stops, full-on, full-over}
 use Rattle.motion.proofs.reading.is_full.Statement.{statement}
 use Rattle.motion.proofs.reading.is_full.Tie as tie
+use Rattle.motion.proofs.reading.is_full.Reads as reads
+use Rattle.motion.proofs.reading.is_full.Lts as lts
+use Rattle.motion.proofs.robot_on.Reads as robot-on-reads
 
 abbrev Inv-loop : tie.InvT-loop
-Inv-loop s zone i₀ i = (i ≤ length zone) × (full (drop i (arrangementOf (stateOf s) zone)) ≡ full (arrangementOf (stateOf s) zone))
+Inv-loop robots zone i₀ i = (i ≤ length zone) × (full (drop i (arrangementOf (onVertices robots) zone)) ≡ full (arrangementOf (onVertices robots) zone))
 
 abbrev μ-loop : tie.MeasureT-loop
-μ-loop s zone i₀ i = length zone - i
+μ-loop robots zone i₀ i = length zone - i
 
+-- src/reading.rt:63:5
 loop-holds : tie.Need-loop-holds Inv-loop μ-loop
 loop-holds c = (search needs, refl)
 
+-- src/reading.rt:64:41
 shared-slice-read-t8 : tie.Need-shared-slice-read-t8 Inv-loop μ-loop
 shared-slice-read-t8 c = search needs
 
+-- src/reading.rt:64:13
 robot-on-requires : tie.Need-robot-on-requires Inv-loop μ-loop
 robot-on-requires c κs = search needs
 
+-- src/reading.rt:66:13
 returns : tie.Need-returns Inv-loop μ-loop
 returns c =
-    let a = c .before .before .before .before .before .before .before .args in
+    let a = c .before .before .before .before .before .before .before .before .args in
     let o = c .before .before .before .before .before .loop in
-    full-stops (stateOf (a .s)) (a .zone .now) (o .i) (c .before .before .robot-on .result .0) (search needs) (c .before .before .robot-on .ensures) (c .if1 .taken) ∙ o .inv .1
+    full-stops (onVertices (a .robots .now)) (a .zone .now) (o .i) (c .before .before .robot-on .result .0) (search needs) (c .before .before .robot-on .ensures) (c .if1 .taken) ∙ o .inv .1
 
+-- src/reading.rt:68:9
 add-i : tie.Need-add-i Inv-loop μ-loop
 add-i c = search needs
 
+-- src/reading.rt:63:5
 loop-less : tie.Need-loop-less Inv-loop μ-loop
 loop-less c = search needs
 
+-- src/reading.rt:63:5
 loop-again : tie.Need-loop-again Inv-loop μ-loop
 loop-again c =
-    let a = c .before .before .before .before .before .before .before .args in
+    let a = c .before .before .before .before .before .before .before .before .args in
     let o = c .before .before .before .before .before .loop in
-    (search needs, full-on (stateOf (a .s)) (a .zone .now) (o .i) (c .before .before .robot-on .result .0) (search needs) (c .before .before .robot-on .ensures) (c .if1 .left) ∙ o .inv .1)
+    (search needs, full-on (onVertices (a .robots .now)) (a .zone .now) (o .i) (c .before .before .robot-on .result .0) (search needs) (c .before .before .robot-on .ensures) (c .if1 .left) ∙ o .inv .1)
 
+-- src/reading.rt:59:1
 returns-2 : tie.Need-returns-2 Inv-loop μ-loop
 returns-2 c =
-    let a = c .before .before .before .args in
+    let a = c .before .before .before .before .args in
     let o = c .before .loop in
-    full-over (stateOf (a .s)) (a .zone .now) (o .i) (search needs) ∙ o .inv .1
+    full-over (onVertices (a .robots .now)) (a .zone .now) (o .i) (search needs) ∙ o .inv .1
 
 pub is-full-spec : {M : Type 1} → statement M
 is-full-spec =

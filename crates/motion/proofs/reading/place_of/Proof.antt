@@ -3,20 +3,27 @@ use Prim.Native.Nat.{ℕ}
 use mathlib.Core.Path.{ap, _∙_}
 use Rattle.spec.specs.Arrangement.{seek}
 use Rattle.spec.specs.State.{arrangementOf}
-use Rattle.motion.specs.States.{stateOf}
+use Rattle.motion.specs.Tables.{onVertices}
 use Rattle.motion.specs.Reading.{seek-nobody}
 use Rattle.theory.specs.Maps.Cells.{cell-of}
+use borrow.Author.Needs.{needs}
 use Rattle.motion.proofs.reading.place_of.Statement.{statement}
 use Rattle.motion.proofs.reading.place_of.Tie as tie
+use Rattle.motion.proofs.reading.place_of.Reads as reads
+use Rattle.motion.proofs.reading.place_of.Lts as lts
+use Rattle.motion.proofs.reading.seek_robot.Reads as seek-robot-reads
 
+-- src/reading.rt:53:9
 returns : tie.Need-returns
-returns c = seek-nobody (stateOf (c .before .before .before .args .s)) (c .before .before .before .args .zone .now) (c .before .before .before .args .r .0) (c .if1 .taken)
+returns c = seek-nobody (onVertices (c .before .before .before .before .args .robots .now)) (c .before .before .before .before .args .zone .now) (c .before .before .before .before .args .r .0) (c .if1 .taken)
 
+-- src/reading.rt:55:5
 seek-robot-requires : tie.Need-seek-robot-requires
 seek-robot-requires c κs = search needs
 
+-- src/reading.rt:49:1
 returns-2 : tie.Need-returns-2
-returns-2 c = c .seek-robot .ensures ∙ ap (λ (x : ℕ). seek x (arrangementOf (stateOf (c .before .before .before .before .args .s)) (c .before .before .before .before .args .zone .now))) (cell-of (c .before .if1 .left))
+returns-2 c = c .seek-robot .ensures ∙ ap (λ (x : ℕ). seek x (arrangementOf (onVertices (c .before .before .before .before .before .args .robots .now)) (c .before .before .before .before .before .args .zone .now))) (cell-of (c .before .if1 .left))
 
 pub place-of-spec : {M : Type 1} → statement M
 place-of-spec = tie.close (tie.spec returns seek-robot-requires returns-2)
