@@ -9,8 +9,8 @@ ghost use Prim.Native.Nat.{_≤_, _<_, min};
 ghost use lib.ListN.{length};
 ghost use Rattle.spec.specs.Hall.{hallLeave, hallEnter, hallEnd};
 ghost use Rattle.spec.specs.State.{across, arrangementOf};
-ghost use Rattle.motion.specs.States.{stateOf};
-ghost use Rattle.motion.specs.World.{worldOf, madeAll};
+ghost use Rattle.motion.specs.Tables.{onVertices};
+ghost use Rattle.motion.specs.World.{worldIn, madeAll};
 
 pub mod goals;
 pub mod line;
@@ -21,8 +21,6 @@ use goals::index_of;
 use goals::lower_than;
 use goals::spread;
 use line::line_up;
-use motion::Run;
-use motion::State;
 use numbering::Robot;
 pub use reach::behind;
 pub use reach::can_end;
@@ -40,46 +38,96 @@ fn least(a: usize, b: usize) -> usize
 }
 
 // "Hall or stack, leaving at j": robot r goes to place j, those below and above it out of its way.
-pub fn leave(run: Run, zone: &[u8], r: Robot, j: usize, out: &mut [u8]) -> Run
+pub fn leave(
+    robots: &mut [u8],
+    vertices: &mut [u8],
+    count: usize,
+    zone: &[u8],
+    r: Robot,
+    j: usize,
+    out: &mut [u8],
+) -> usize
     requires { ⌜ (length (now zone) ≤ 128) × (j < 128) ⌝ }
-    ensures { λ q. ⌜ worldOf q (now (out .exit)) ≡ madeAll (worldOf run (now (out .entry))) (across (now (zone .entry)) (hallLeave (arrangementOf (stateOf (run .state)) (now (zone .entry))) (r .0) j)) ⌝ }
+    ensures { λ q. ⌜ worldIn (now (robots .exit)) (now (vertices .exit)) q (now (out .exit)) ≡ madeAll (worldIn (now (robots .entry)) (now (vertices .entry)) count (now (out .entry))) (across (now (zone .entry)) (hallLeave (arrangementOf (onVertices (now (robots .entry))) (now (zone .entry))) (r .0) j)) ⌝ }
 {
-    let s = run.state;
-    let mut robots = [0u8; 128];
+    let mut line = [0u8; 128];
     let mut places = [0u8; 128];
     let mut goals = [0u8; 128];
-    let n = line_up(s, zone, &mut robots, &mut places);
-    let t = index_of(&robots, n, r.0);
+    let n = line_up(robots, zone, &mut line, &mut places);
+    let t = index_of(&line, n, r.0);
     spread(&places, n, t, t + 1, j, &mut goals);
-    settle(run, zone, &robots, &places, &goals, n, out)
+    settle(
+        robots,
+        vertices,
+        count,
+        zone,
+        &line,
+        &places,
+        &goals,
+        n,
+        out,
+    )
 }
 
 // "Entering at j": the named robot and those lower go below place j, the rest above it.
-pub fn enter(run: Run, zone: &[u8], j: usize, behind: u8, out: &mut [u8]) -> Run
+pub fn enter(
+    robots: &mut [u8],
+    vertices: &mut [u8],
+    count: usize,
+    zone: &[u8],
+    j: usize,
+    behind: u8,
+    out: &mut [u8],
+) -> usize
     requires { ⌜ (length (now zone) ≤ 128) × (j < 128) ⌝ }
-    ensures { λ q. ⌜ worldOf q (now (out .exit)) ≡ madeAll (worldOf run (now (out .entry))) (across (now (zone .entry)) (hallEnter (arrangementOf (stateOf (run .state)) (now (zone .entry))) j behind)) ⌝ }
+    ensures { λ q. ⌜ worldIn (now (robots .exit)) (now (vertices .exit)) q (now (out .exit)) ≡ madeAll (worldIn (now (robots .entry)) (now (vertices .entry)) count (now (out .entry))) (across (now (zone .entry)) (hallEnter (arrangementOf (onVertices (now (robots .entry))) (now (zone .entry))) j behind)) ⌝ }
 {
-    let s = run.state;
-    let mut robots = [0u8; 128];
+    let mut line = [0u8; 128];
     let mut places = [0u8; 128];
     let mut goals = [0u8; 128];
-    let n = line_up(s, zone, &mut robots, &mut places);
-    let t = lower_than(&robots, n, behind);
+    let n = line_up(robots, zone, &mut line, &mut places);
+    let t = lower_than(&line, n, behind);
     spread(&places, n, t, t, j, &mut goals);
-    settle(run, zone, &robots, &places, &goals, n, out)
+    settle(
+        robots,
+        vertices,
+        count,
+        zone,
+        &line,
+        &places,
+        &goals,
+        n,
+        out,
+    )
 }
 
 // The robots go to their goals' places.
-pub fn end(run: Run, zone: &[u8], goals: State, out: &mut [u8]) -> Run
+pub fn end(
+    robots: &mut [u8],
+    vertices: &mut [u8],
+    count: usize,
+    zone: &[u8],
+    goals: &[u8],
+    out: &mut [u8],
+) -> usize
     requires { ⌜ length (now zone) ≤ 128 ⌝ }
-    ensures { λ q. ⌜ worldOf q (now (out .exit)) ≡ madeAll (worldOf run (now (out .entry))) (across (now (zone .entry)) (hallEnd (arrangementOf (stateOf (run .state)) (now (zone .entry))) (arrangementOf (stateOf goals) (now (zone .entry))))) ⌝ }
+    ensures { λ q. ⌜ worldIn (now (robots .exit)) (now (vertices .exit)) q (now (out .exit)) ≡ madeAll (worldIn (now (robots .entry)) (now (vertices .entry)) count (now (out .entry))) (across (now (zone .entry)) (hallEnd (arrangementOf (onVertices (now (robots .entry))) (now (zone .entry))) (arrangementOf (onVertices (now (goals .entry))) (now (zone .entry))))) ⌝ }
 {
-    let s = run.state;
-    let mut robots = [0u8; 128];
+    let mut line = [0u8; 128];
     let mut places = [0u8; 128];
-    let n = line_up(s, zone, &mut robots, &mut places);
+    let n = line_up(robots, zone, &mut line, &mut places);
     let mut others = [0u8; 128];
     let mut targets = [0u8; 128];
     let m = line_up(goals, zone, &mut others, &mut targets);
-    settle(run, zone, &robots, &places, &targets, least(n, m), out)
+    settle(
+        robots,
+        vertices,
+        count,
+        zone,
+        &line,
+        &places,
+        &targets,
+        least(n, m),
+        out,
+    )
 }

@@ -4,11 +4,9 @@ ghost use lib.ListN.{take, drop};
 ghost use Rattle.spec.specs.Arrangement.{lastNamed};
 ghost use Rattle.spec.specs.State.{arrangementOf};
 ghost use Rattle.spec.specs.Hall.{room, hallCanLeave, hallCanEnter, hallCanEnd};
-ghost use Rattle.motion.specs.States.{stateOf};
 ghost use Rattle.motion.specs.Tables.{onVertices};
 ghost use Rattle.hall.specs.Reach.{Counted, NextIs};
 use crate::least;
-use motion::State;
 use motion::robot_in;
 use motion::robot_on;
 use numbering::Robot;
@@ -20,14 +18,14 @@ struct Count {
     all: usize,
 }
 
-fn count_robots(s: State, zone: &[u8], named: u8) -> Count
-    ensures { λ c. ⌜ Counted (arrangementOf (stateOf s) (now (zone .entry))) named (c .lower) (c .all) ⌝ }
+fn count_robots(robots: &[u8], zone: &[u8], named: u8) -> Count
+    ensures { λ c. ⌜ Counted (arrangementOf (onVertices (now (robots .entry))) (now (zone .entry))) named (c .lower) (c .all) ⌝ }
 {
     let mut lower: usize = 0;
     let mut all: usize = 0;
     let mut k: usize = 0;
     while k < zone.len() {
-        let r = robot_on(s, Vertex(zone[k]));
+        let r = robot_on(robots, Vertex(zone[k]));
         k += 1;
         if r.0 != 255 {
             all += 1;
@@ -58,10 +56,10 @@ pub fn has_room(size: usize, j: usize, t: usize, u: usize) -> bool
 }
 
 // Can robot r leave at place j?
-pub fn can_leave(s: State, zone: &[u8], r: Robot, j: usize) -> bool
-    ensures { λ b. ⌜ b ≡ hallCanLeave (arrangementOf (stateOf s) (now (zone .entry))) (r .0) j ⌝ }
+pub fn can_leave(robots: &[u8], zone: &[u8], r: Robot, j: usize) -> bool
+    ensures { λ b. ⌜ b ≡ hallCanLeave (arrangementOf (onVertices (now (robots .entry))) (now (zone .entry))) (r .0) j ⌝ }
 {
-    let c = count_robots(s, zone, r.0);
+    let c = count_robots(robots, zone, r.0);
     let t = c.lower;
     let n = c.all;
     if t < n {
@@ -71,10 +69,10 @@ pub fn can_leave(s: State, zone: &[u8], r: Robot, j: usize) -> bool
 }
 
 // Can a robot enter at place j with the named one behind it, 255 for none?
-pub fn can_enter(s: State, zone: &[u8], j: usize, behind: u8) -> bool
-    ensures { λ b. ⌜ b ≡ hallCanEnter (arrangementOf (stateOf s) (now (zone .entry))) j behind ⌝ }
+pub fn can_enter(robots: &[u8], zone: &[u8], j: usize, behind: u8) -> bool
+    ensures { λ b. ⌜ b ≡ hallCanEnter (arrangementOf (onVertices (now (robots .entry))) (now (zone .entry))) j behind ⌝ }
 {
-    let c = count_robots(s, zone, behind);
+    let c = count_robots(robots, zone, behind);
     let t = c.lower;
     let n = c.all;
     if behind == 255 {
@@ -87,12 +85,12 @@ pub fn can_enter(s: State, zone: &[u8], j: usize, behind: u8) -> bool
 }
 
 // The first place from k on at which a robot stands; the size where there is none.
-fn next_robot(s: State, zone: &[u8], k: usize) -> usize
-    ensures { λ i. ⌜ NextIs (stateOf s) (now (zone .entry)) k i ⌝ }
+fn next_robot(robots: &[u8], zone: &[u8], k: usize) -> usize
+    ensures { λ i. ⌜ NextIs (onVertices (now (robots .entry))) (now (zone .entry)) k i ⌝ }
 {
     let mut i = k;
     while i < zone.len() {
-        let r = robot_on(s, Vertex(zone[i]));
+        let r = robot_on(robots, Vertex(zone[i]));
         if r.0 != 255 {
             return i;
         }
@@ -102,21 +100,21 @@ fn next_robot(s: State, zone: &[u8], k: usize) -> usize
 }
 
 // Are the goals in the configuration: the same robots in the same order?
-pub fn can_end(s: State, zone: &[u8], goals: State) -> bool
-    ensures { λ b. ⌜ b ≡ hallCanEnd (arrangementOf (stateOf s) (now (zone .entry))) (arrangementOf (stateOf goals) (now (zone .entry))) ⌝ }
+pub fn can_end(robots: &[u8], zone: &[u8], goals: &[u8]) -> bool
+    ensures { λ b. ⌜ b ≡ hallCanEnd (arrangementOf (onVertices (now (robots .entry))) (now (zone .entry))) (arrangementOf (onVertices (now (goals .entry))) (now (zone .entry))) ⌝ }
 {
-    let mut i = next_robot(s, zone, 0);
+    let mut i = next_robot(robots, zone, 0);
     let mut k = next_robot(goals, zone, 0);
     while i < zone.len() {
         if zone.len() <= k {
             return false;
         }
-        let r = robot_on(s, Vertex(zone[i]));
+        let r = robot_on(robots, Vertex(zone[i]));
         let g = robot_on(goals, Vertex(zone[k]));
         if r.0 != g.0 {
             return false;
         }
-        i = next_robot(s, zone, i + 1);
+        i = next_robot(robots, zone, i + 1);
         k = next_robot(goals, zone, k + 1);
     }
     zone.len() <= k

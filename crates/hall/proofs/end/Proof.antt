@@ -5,68 +5,95 @@ use mathlib.Core.Path.{ap, _∙_}
 use mathlib.Core.List.{List}
 use Rattle.spec.specs.Arrangement.{Move}
 use Rattle.spec.specs.State.{arrangementOf, across}
-use Rattle.motion.specs.States.{stateOf}
-use Rattle.motion.specs.World.{worldOf, madeAll}
+use Rattle.motion.specs.Tables.{onVertices}
+use Rattle.motion.specs.World.{worldIn, madeAll}
 use Rattle.motion.specs.Across.{arrangement-length}
 use Rattle.hall.specs.Ends.{end-is}
+use borrow.Author.Needs.{needs}
 use Rattle.hall.proofs.end.Statement.{statement}
 use Rattle.hall.proofs.end.Tie as tie
+use Rattle.hall.proofs.end.Reads as reads
+use Rattle.hall.proofs.end.Lts as lts
+use Rattle.hall.proofs.least.Reads as least-reads
+use Rattle.hall.proofs.line.line_up.Reads as line-up-reads
+use Rattle.hall.proofs.trips.settle.Reads as settle-reads
 
+-- src/lib.rt:118:35
 slice-aggregate-line-up : tie.Need-slice-aggregate-line-up
 slice-aggregate-line-up c = search needs
 
+-- src/lib.rt:118:46
 slice-aggregate-line-up-2 : tie.Need-slice-aggregate-line-up-2
 slice-aggregate-line-up-2 c = search needs
 
+-- src/lib.rt:118:9
 line-up-requires : tie.Need-line-up-requires
 line-up-requires c κs = search needs
 
+-- src/lib.rt:121:34
 slice-aggregate-line-up-3 : tie.Need-slice-aggregate-line-up-3
 slice-aggregate-line-up-3 c = search needs
 
+-- src/lib.rt:121:47
 slice-aggregate-line-up-4 : tie.Need-slice-aggregate-line-up-4
 slice-aggregate-line-up-4 c = search needs
 
+-- src/lib.rt:121:9
 line-up-requires-2 : tie.Need-line-up-requires-2
 line-up-requires-2 c κs = search needs
 
+-- src/lib.rt:127:9
 slice-aggregate-settle : tie.Need-slice-aggregate-settle
 slice-aggregate-settle c = search needs
 
+-- src/lib.rt:128:9
 slice-aggregate-settle-2 : tie.Need-slice-aggregate-settle-2
 slice-aggregate-settle-2 c = search needs
 
+-- src/lib.rt:129:9
 slice-aggregate-settle-3 : tie.Need-slice-aggregate-settle-3
 slice-aggregate-settle-3 c = search needs
 
+-- src/lib.rt:130:9
 least-requires : tie.Need-least-requires
 least-requires c κs = search needs
 
+-- src/lib.rt:122:5
 settle-requires : tie.Need-settle-requires
 settle-requires c κs =
-    let a = c .before .before .before .before .before .before .before .before .before .before .before .before .before .before .before .before .before .before .args in
-    let l = c .before .before .before .before .before .before .before .before .before .before .before .before .line-up in
-    let m = c .before .before .before .before .before .before .before .line-up2 in
+    let a = c .before .before .before .before .before .before .before .before .before .before .before .before .before .before .before .before .before .before .before .before .before .before .before .args in
+    let l = c .before .before .before .before .before .before .before .before .before .before .before .before .before .before .line-up in
+    let m = c .before .before .before .before .before .before .before .before .before .line-up2 in
     let e = c .before .least .ensures in
-    let x : l .result ≤ 128 = omega (arith, l .ensures .short, arrangement-length (stateOf (a .run .state)) (a .zone .now), c .before .before .before .before .before .before .before .before .before .before .before .before .before .before .before .before .before .before .pre) in
-    let y : m .result ≤ 128 = omega (arith, m .ensures .short, arrangement-length (stateOf (a .goals)) (a .zone .now), c .before .before .before .before .before .before .before .before .before .before .before .before .before .before .before .before .before .before .pre) in
+    let x : l .result ≤ 128 = omega (arith, l .ensures .short, arrangement-length (onVertices (a .robots .now)) (a .zone .now), c .before .before .before .before .before .before .before .before .before .before .before .before .before .before .before .before .before .before .before .before .before .before .before .pre) in
+    let y : m .result ≤ 128 = omega (arith, m .ensures .short, arrangement-length (onVertices (a .goals .now)) (a .zone .now), c .before .before .before .before .before .before .before .before .before .before .before .before .before .before .before .before .before .before .before .before .before .before .before .pre) in
     (search needs, search needs, search needs)
 
+-- src/lib.rt:105:1
 same-length : tie.Need-same-length
 same-length c = search needs
 
+-- src/lib.rt:105:1
+same-length-2 : tie.Need-same-length-2
+same-length-2 c = search needs
+
+-- src/lib.rt:105:1
+same-length-3 : tie.Need-same-length-3
+same-length-3 c = search needs
+
+-- src/lib.rt:105:1
 returns : tie.Need-returns
 returns c =
-    let a = c .before .before .before .before .before .before .before .before .before .before .before .before .before .before .before .before .before .before .before .before .before .args in
+    let a = c .before .before .before .before .before .before .before .before .before .before .before .before .before .before .before .before .before .before .before .before .before .before .before .before .before .before .before .before .before .before .args in
     let z = a .zone .now in
-    let l = c .before .before .before .before .before .before .before .before .before .before .before .before .before .before .before .line-up in
-    let m = c .before .before .before .before .before .before .before .before .before .before .line-up2 in
-    c .before .before .settle .ensures
-    ∙ ap (λ (ms : List Move). madeAll (worldOf (a .run) (a .out .now)) (across z ms))
-    (end-is (arrangementOf (stateOf (a .run .state)) z) (arrangementOf (stateOf (a .goals)) z) (l .result) (m .result) _ _ _ _ _
-    (omega (arith, l .ensures .short, arrangement-length (stateOf (a .run .state)) z, c .before .before .before .before .before .before .before .before .before .before .before .before .before .before .before .before .before .before .before .before .before .pre))
-    (omega (arith, m .ensures .short, arrangement-length (stateOf (a .goals)) z, c .before .before .before .before .before .before .before .before .before .before .before .before .before .before .before .before .before .before .before .before .before .pre))
-    (c .before .before .before .before .least .ensures) (l .ensures) (m .ensures))
+    let l = c .before .before .before .before .before .before .before .before .before .before .before .before .before .before .before .before .before .before .before .before .before .line-up in
+    let m = c .before .before .before .before .before .before .before .before .before .before .before .before .before .before .before .before .line-up2 in
+    c .before .before .before .before .before .before .settle .ensures
+    ∙ ap (λ (ms : List Move). madeAll (worldIn (a .robots .now) (a .vertices .now) (a .count) (a .out .now)) (across z ms))
+    (end-is (arrangementOf (onVertices (a .robots .now)) z) (arrangementOf (onVertices (a .goals .now)) z) (l .result) (m .result) _ _ _ _ _
+    (omega (arith, l .ensures .short, arrangement-length (onVertices (a .robots .now)) z, c .before .before .before .before .before .before .before .before .before .before .before .before .before .before .before .before .before .before .before .before .before .before .before .before .before .before .before .before .before .before .pre))
+    (omega (arith, m .ensures .short, arrangement-length (onVertices (a .goals .now)) z, c .before .before .before .before .before .before .before .before .before .before .before .before .before .before .before .before .before .before .before .before .before .before .before .before .before .before .before .before .before .before .pre))
+    (c .before .before .before .before .before .before .before .before .least .ensures) (l .ensures) (m .ensures))
 
 pub end-spec : {M : Type 1} → statement M
 end-spec =
@@ -84,4 +111,6 @@ end-spec =
     least-requires
     settle-requires
     same-length
+    same-length-2
+    same-length-3
     returns)

@@ -5,70 +5,99 @@ use mathlib.Core.Path.{ap, _∙_}
 use mathlib.Core.List.{List}
 use Rattle.spec.specs.Arrangement.{Move}
 use Rattle.spec.specs.State.{arrangementOf, across}
-use Rattle.motion.specs.States.{stateOf}
-use Rattle.motion.specs.World.{worldOf, madeAll}
+use Rattle.motion.specs.Tables.{onVertices}
+use Rattle.motion.specs.World.{worldIn, madeAll}
 use Rattle.motion.specs.Across.{arrangement-length}
 use Rattle.hall.specs.Ends.{enter-is}
+use borrow.Author.Needs.{needs}
 use Rattle.hall.proofs.enter.Statement.{statement}
 use Rattle.hall.proofs.enter.Tie as tie
+use Rattle.hall.proofs.enter.Reads as reads
+use Rattle.hall.proofs.enter.Lts as lts
+use Rattle.hall.proofs.goals.lower_than.Reads as lower-than-reads
+use Rattle.hall.proofs.goals.spread.Reads as spread-reads
+use Rattle.hall.proofs.line.line_up.Reads as line-up-reads
+use Rattle.hall.proofs.trips.settle.Reads as settle-reads
 
+-- src/lib.rt:88:35
 slice-aggregate-line-up : tie.Need-slice-aggregate-line-up
 slice-aggregate-line-up c = search needs
 
+-- src/lib.rt:88:46
 slice-aggregate-line-up-2 : tie.Need-slice-aggregate-line-up-2
 slice-aggregate-line-up-2 c = search needs
 
+-- src/lib.rt:88:9
 line-up-requires : tie.Need-line-up-requires
 line-up-requires c κs = search needs
 
+-- src/lib.rt:89:24
 slice-aggregate-lower-than : tie.Need-slice-aggregate-lower-than
 slice-aggregate-lower-than c = search needs
 
+-- src/lib.rt:89:9
 lower-than-requires : tie.Need-lower-than-requires
 lower-than-requires c κs =
     let l = c .before .before .before .line-up in
-    let x : l .result ≤ 128 = omega (arith, l .ensures .short, arrangement-length (stateOf (c .before .before .before .before .before .before .before .before .before .args .run .state)) (c .before .before .before .before .before .before .before .before .before .args .zone .now), c .before .before .before .before .before .before .before .before .before .pre) in
+    let x : l .result ≤ 128 = omega (arith, l .ensures .short, arrangement-length (onVertices (c .before .before .before .before .before .before .before .before .before .before .before .args .robots .now)) (c .before .before .before .before .before .before .before .before .before .before .before .args .zone .now), c .before .before .before .before .before .before .before .before .before .before .before .pre) in
     search needs
 
+-- src/lib.rt:90:12
 slice-aggregate-spread : tie.Need-slice-aggregate-spread
 slice-aggregate-spread c = search needs
 
+-- src/lib.rt:90:33
 slice-aggregate-spread-2 : tie.Need-slice-aggregate-spread-2
 slice-aggregate-spread-2 c = search needs
 
+-- src/lib.rt:90:5
 spread-requires : tie.Need-spread-requires
 spread-requires c κs =
     let l = c .before .before .before .before .before .before .line-up in
-    let x : l .result ≤ 128 = omega (arith, l .ensures .short, arrangement-length (stateOf (c .before .before .before .before .before .before .before .before .before .before .before .before .args .run .state)) (c .before .before .before .before .before .before .before .before .before .before .before .before .args .zone .now), c .before .before .before .before .before .before .before .before .before .before .before .before .pre) in
-    (search needs, search needs, search needs, c .before .before .before .before .before .before .before .before .before .before .before .before .pre .1)
+    let x : l .result ≤ 128 = omega (arith, l .ensures .short, arrangement-length (onVertices (c .before .before .before .before .before .before .before .before .before .before .before .before .before .before .args .robots .now)) (c .before .before .before .before .before .before .before .before .before .before .before .before .before .before .args .zone .now), c .before .before .before .before .before .before .before .before .before .before .before .before .before .before .pre) in
+    (search needs, search needs, search needs, c .before .before .before .before .before .before .before .before .before .before .before .before .before .before .pre .1)
 
+-- src/lib.rt:96:9
 slice-aggregate-settle : tie.Need-slice-aggregate-settle
 slice-aggregate-settle c = search needs
 
+-- src/lib.rt:97:9
 slice-aggregate-settle-2 : tie.Need-slice-aggregate-settle-2
 slice-aggregate-settle-2 c = search needs
 
+-- src/lib.rt:98:9
 slice-aggregate-settle-3 : tie.Need-slice-aggregate-settle-3
 slice-aggregate-settle-3 c = search needs
 
+-- src/lib.rt:91:5
 settle-requires : tie.Need-settle-requires
 settle-requires c κs =
-    let l = c .before .before .before .before .before .before .before .before .before .before .before .before .line-up in
-    let x : l .result ≤ 128 = omega (arith, l .ensures .short, arrangement-length (stateOf (c .before .before .before .before .before .before .before .before .before .before .before .before .before .before .before .before .before .before .args .run .state)) (c .before .before .before .before .before .before .before .before .before .before .before .before .before .before .before .before .before .before .args .zone .now), c .before .before .before .before .before .before .before .before .before .before .before .before .before .before .before .before .before .before .pre) in
+    let l = c .before .before .before .before .before .before .before .before .before .before .before .before .before .before .line-up in
+    let x : l .result ≤ 128 = omega (arith, l .ensures .short, arrangement-length (onVertices (c .before .before .before .before .before .before .before .before .before .before .before .before .before .before .before .before .before .before .before .before .before .before .args .robots .now)) (c .before .before .before .before .before .before .before .before .before .before .before .before .before .before .before .before .before .before .before .before .before .before .args .zone .now), c .before .before .before .before .before .before .before .before .before .before .before .before .before .before .before .before .before .before .before .before .before .before .pre) in
     (search needs, search needs, search needs)
 
+-- src/lib.rt:73:1
 same-length : tie.Need-same-length
 same-length c = search needs
 
+-- src/lib.rt:73:1
+same-length-2 : tie.Need-same-length-2
+same-length-2 c = search needs
+
+-- src/lib.rt:73:1
+same-length-3 : tie.Need-same-length-3
+same-length-3 c = search needs
+
+-- src/lib.rt:73:1
 returns : tie.Need-returns
 returns c =
-    let a = c .before .before .before .before .before .before .before .before .before .before .before .before .before .before .before .before .before .before .before .before .before .args in
+    let a = c .before .before .before .before .before .before .before .before .before .before .before .before .before .before .before .before .before .before .before .before .before .before .before .before .before .before .before .before .before .args in
     let z = a .zone .now in
-    let l = c .before .before .before .before .before .before .before .before .before .before .before .before .before .before .before .line-up in
-    c .before .before .settle .ensures
-    ∙ ap (λ (ms : List Move). madeAll (worldOf (a .run) (a .out .now)) (across z ms))
-    (enter-is (arrangementOf (stateOf (a .run .state)) z) (l .result) (a .behind) (c .before .before .before .before .before .before .before .before .before .before .before .lower-than .result) (a .j) _ _ _
-    (omega (arith, l .ensures .short, arrangement-length (stateOf (a .run .state)) z, c .before .before .before .before .before .before .before .before .before .before .before .before .before .before .before .before .before .before .before .before .before .pre)) (l .ensures) (c .before .before .before .before .before .before .before .before .before .before .before .lower-than .ensures) (c .before .before .before .before .before .before .before .before .spread .ensures))
+    let l = c .before .before .before .before .before .before .before .before .before .before .before .before .before .before .before .before .before .before .before .before .before .line-up in
+    c .before .before .before .before .before .before .settle .ensures
+    ∙ ap (λ (ms : List Move). madeAll (worldIn (a .robots .now) (a .vertices .now) (a .count) (a .out .now)) (across z ms))
+    (enter-is (arrangementOf (onVertices (a .robots .now)) z) (l .result) (a .behind) (c .before .before .before .before .before .before .before .before .before .before .before .before .before .before .before .before .before .lower-than .result) (a .j) _ _ _
+    (omega (arith, l .ensures .short, arrangement-length (onVertices (a .robots .now)) z, c .before .before .before .before .before .before .before .before .before .before .before .before .before .before .before .before .before .before .before .before .before .before .before .before .before .before .before .before .before .pre)) (l .ensures) (c .before .before .before .before .before .before .before .before .before .before .before .before .before .before .before .before .before .lower-than .ensures) (c .before .before .before .before .before .before .before .before .before .before .before .before .before .before .spread .ensures))
 
 pub enter-spec : {M : Type 1} → statement M
 enter-spec =
@@ -87,4 +116,6 @@ enter-spec =
     slice-aggregate-settle-3
     settle-requires
     same-length
+    same-length-2
+    same-length-3
     returns)

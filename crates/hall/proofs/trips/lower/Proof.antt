@@ -5,61 +5,87 @@ use lib.ListN.{length}
 use Rattle.spec.specs.Arrangement.{mv}
 use Rattle.spec.specs.State.{across}
 use Rattle.spec.specs.Hall.{down}
-use Rattle.motion.specs.World.{worldOf, made, madeAll, made-none}
+use Rattle.motion.specs.World.{worldIn, made, madeAll, made-none}
 use Rattle.motion.specs.Across.{across-move, across-nil, made-more}
 use Rattle.hall.specs.Trips.{down-more, down-done}
 use Rattle.hall.proofs.trips.lower.Statement.{statement}
 use Rattle.hall.proofs.trips.lower.Tie as tie
+use Rattle.hall.proofs.trips.lower.Reads as reads
+use Rattle.hall.proofs.trips.lower.Lts as lts
+use Rattle.motion.proofs.make.Reads as make-reads
+use Rattle.motion.proofs.vertex_at.Reads as vertex-at-reads
 
 abbrev Inv-loop : tie.InvT-loop
-Inv-loop zone r from to out₀ run₀ stop at₀ out run at = (length out ≡ length out₀) × (at ≤ from)
-    × (madeAll (worldOf run out) (across zone (down (r .0) (at - to) to)) ≡ madeAll (worldOf run₀ out₀) (across zone (down (r .0) (from - to) to)))
+Inv-loop robots₀ vertices₀ count zone r from to out₀ made₀ stop at₀ robots vertices out made at =
+    (length out ≡ length out₀) × (at ≤ from)
+    × (madeAll (worldIn robots vertices made out) (across zone (down (r .0) (at - to) to)) ≡ madeAll (worldIn robots₀ vertices₀ made₀ out₀) (across zone (down (r .0) (from - to) to)))
+    × (length robots ≡ length robots₀) × (length vertices ≡ length vertices₀)
 
 abbrev μ-loop : tie.MeasureT-loop
-μ-loop zone r from to out₀ run₀ stop at₀ out run at = at - to
+μ-loop robots₀ vertices₀ count zone r from to out₀ made₀ stop at₀ robots vertices out made at = at - to
 
+-- src/trips.rt:29:5
 loop-holds : tie.Need-loop-holds Inv-loop μ-loop
-loop-holds c = (refl, search needs, refl)
+loop-holds c = (refl, search needs, refl, refl, refl)
 
+-- src/trips.rt:30:13
 vertex-at-requires : tie.Need-vertex-at-requires Inv-loop μ-loop
 vertex-at-requires c κs = search needs
 
+-- src/trips.rt:31:33
 sub-vertex-at : tie.Need-sub-vertex-at Inv-loop μ-loop
 sub-vertex-at c = search needs
 
+-- src/trips.rt:31:13
 vertex-at-requires-2 : tie.Need-vertex-at-requires-2 Inv-loop μ-loop
 vertex-at-requires-2 c κs = search needs
 
+-- src/trips.rt:32:9
 make-requires : tie.Need-make-requires Inv-loop μ-loop
 make-requires c κs = search needs
 
+-- src/trips.rt:33:9
 sub-at : tie.Need-sub-at Inv-loop μ-loop
 sub-at c = search needs
 
+-- src/trips.rt:29:5
 loop-less : tie.Need-loop-less Inv-loop μ-loop
 loop-less c = search needs
 
+-- src/trips.rt:29:5
 loop-again : tie.Need-loop-again Inv-loop μ-loop
 loop-again c =
-    let a = c .before .before .before .before .before .before .before .before .before .before .args in
-    let o = c .before .before .before .before .before .before .before .loop in
+    let a = c .before .before .before .before .before .before .before .before .before .before .before .before .before .before .before .before .before .before .args in
+    let o = c .before .before .before .before .before .before .before .before .before .before .before .before .before .loop in
     let z = a .zone .now in
-    let w = worldOf (o .run) (o .out) in (
+    let w = worldIn (o .robots) (o .vertices) (o .made) (o .out) in (
       search needs,
       search needs,
       made-more w _ z (mv (a .r .0) (o .at) (o .at - 1)) (down (a .r .0) (o .at - 1 - a .to) (a .to)) _
-          (c .before .before .make .ensures ∙ ap (made w) (across-move z _ (a .r .0) (o .at) (o .at - 1) _ _ refl (c .before .before .before .before .before .vertex-at .ensures) (c .before .before .before .before .vertex-at2 .ensures)))
-          (down-more (a .r .0) (o .at) (a .to) (c .before .before .before .before .before .before .loop-test .taken)) ∙ o .inv .2,
+          (c .before .before .before .before .before .before .make .ensures ∙ ap (made w) (across-move z _ (a .r .0) (o .at) (o .at - 1) _ _ refl (c .before .before .before .before .before .before .before .before .before .before .before .vertex-at .ensures) (c .before .before .before .before .before .before .before .before .before .before .vertex-at2 .ensures)))
+          (down-more (a .r .0) (o .at) (a .to) (c .before .before .before .before .before .before .before .before .before .before .before .before .loop-test .taken)) ∙ o .inv .2,
+      search needs,
+      search needs,
     )
 
+-- src/trips.rt:14:1
 same-length : tie.Need-same-length Inv-loop μ-loop
 same-length c = search needs
 
+-- src/trips.rt:14:1
+same-length-2 : tie.Need-same-length-2 Inv-loop μ-loop
+same-length-2 c = search needs
+
+-- src/trips.rt:14:1
+same-length-3 : tie.Need-same-length-3 Inv-loop μ-loop
+same-length-3 c = search needs
+
+-- src/trips.rt:14:1
 returns : tie.Need-returns Inv-loop μ-loop
 returns c =
-    let a = c .before .before .before .before .args in
+    let a = c .before .before .before .before .before .before .args in
     let o = c .before .loop in
-    made-none (worldOf (o .run) (o .out)) _ (ap (across (a .zone .now)) (down-done (a .r .0) (o .at) (a .to) (c .loop-test .left)) ∙ across-nil (a .zone .now)) ∙ o .inv .2
+    made-none (worldIn (o .robots) (o .vertices) (o .made) (o .out)) _ (ap (across (a .zone .now)) (down-done (a .r .0) (o .at) (a .to) (c .loop-test .left)) ∙ across-nil (a .zone .now)) ∙ o .inv .2
 
 pub lower-spec : {M : Type 1} → statement M
 lower-spec =
@@ -76,4 +102,6 @@ lower-spec =
     loop-less
     loop-again
     same-length
+    same-length-2
+    same-length-3
     returns)
