@@ -1,26 +1,25 @@
--- Entering a clique, the follow list as an arrangement, and the follow list that a drawn plan has.
+-- Entering a clique, and the follow list as an arrangement.
 use mathlib.Core.Path.{_≡_, refl, ap, ap₂, sym, _∙_}
 use mathlib.Core.Logic.{_≢_}
 use mathlib.Core.Bool.{Bool, true, false}
-use Prim.Native.Nat.{ℕ, zero, suc, _+_, _-_, _*_, _<_, _≤_}
+use Prim.Native.Nat.{ℕ, zero, suc, _+_, _*_, _<_, _≤_}
 use mathlib.Core.List.{List, [], _∷_, map}
 use native.Mathlib.Numerals.{add-one}
 use native.Mathlib.Omega.{arith}
 use native.Mathlib.Decide.{decLt, ℕ-discrete}
-use lib.ListN.{length, getD, set, drop, length-map, length-set, List·getD-eq-default}
-use lib.Seq.{drop-cons, getD-set-other, set-out}
+use lib.ListN.{length, getD, set, drop, length-map, List·getD-eq-default}
+use lib.Seq.{drop-cons, getD-set-other}
 use lib.Dec.{T, eqb}
 use borrow.Author.Tests.{eq-eqb, ne-eqb}
 use Rattle.spec.specs.Outcome.{_&&_}
-use Rattle.spec.specs.Arrangement.{Arrangement, Move, cell, lastFree}
+use Rattle.spec.specs.Arrangement.{Arrangement, cell, lastFree}
 use Rattle.spec.specs.Clique.{named, sameRobots, makeRoom, cliqueTo, cliqueCanEnter, cliqueEnter}
-use Rattle.spec.specs.State.{State, robotOn, cellOf, arrangementOf, robotsOf}
+use Rattle.spec.specs.State.{State, robotOn, cellOf, arrangementOf}
 use Rattle.theory.specs.Basics.Lists.{getD-map}
-use Rattle.theory.specs.Basics.Tests.{false-of, of-true, of-false, and-right}
-use Rattle.theory.specs.Maps.Cells.{cell-of, cell-none}
+use Rattle.theory.specs.Basics.Tests.{of-true, of-false, and-right}
+use Rattle.theory.specs.Maps.Cells.{cell-of}
 use Rattle.theory.specs.Zones.Arrangements.{cell-inside}
-use Rattle.theory.specs.Zones.Robots.{SameRobots, same-robots}
-use Rattle.motion.specs.Cells.{overlaid}
+use Rattle.theory.specs.Zones.Robots.{same-robots}
 use Rattle.motion.specs.Across.{arrangement-length, arrangement-at}
 use Rattle.motion.specs.Reading.{eqb-suc, cell-under}
 
@@ -171,41 +170,3 @@ enter-allowed s vs r j behind list e none = pick (lastFree (arrangementOf s vs))
     pick : (b : Bool) → lastFree (arrangementOf s vs) ≡ b → Numbered list j
     pick true d = entered-numbered s vs r j behind list e d
     pick false d = rw (none d) (numbered-none j)
-
--- ---- the follow list of a drawn plan
-
--- one place of the robots by place
-robots-cons : (x : ℕ) (a : Arrangement) → robotsOf (cellOf x ∷ a) ≡ x ∷ robotsOf a
-unfolding robotsOf
-robots-cons x a = pick (ℕ-discrete x 255)
-  where
-    pick : Dec (x ≡ 255) → robotsOf (cellOf x ∷ a) ≡ x ∷ robotsOf a
-    pick (yes e) = ap (λ (c : ℕ). robotsOf (c ∷ a)) (cell-none e) ∙ ap (λ (y : ℕ). y ∷ robotsOf a) (sym e)
-    pick (no n) = ap (λ (c : ℕ). robotsOf (c ∷ a)) (cell-of n)
-
--- the robots by place are those on the zone's vertices
-robots-all : (s : State) (vs : List ℕ) → map (robotOn s) vs ≡ robotsOf (arrangementOf s vs)
-unfolding robotsOf arrangementOf
-robots-all s [] = refl
-robots-all s (v ∷ vs) = sym (robots-cons (robotOn s v) (arrangementOf s vs) ∙ ap (λ (l : List ℕ). robotOn s v ∷ l) (sym (robots-all s vs)))
-
--- the robots of a zone by place, with r put on place j
-pub robots-put : (s : State) (vs : List ℕ) (j r : ℕ) → set (map (robotOn s) vs) j r ≡ robotsOf (set (arrangementOf s vs) j (suc r))
-unfolding robotsOf arrangementOf
-robots-put s [] j r = refl
-robots-put s (v ∷ vs) zero r = ap (λ (l : List ℕ). r ∷ l) (robots-all s vs)
-robots-put s (v ∷ vs) (suc j) r =
-    sym (robots-cons (robotOn s v) (set (arrangementOf s vs) j (suc r)) ∙ ap (λ (l : List ℕ). robotOn s v ∷ l) (sym (robots-put s vs j r)))
-
--- one put over what was laid over
-pub overlaid-put : (b old : List ℕ) (j x : ℕ) → j < length b → set (overlaid b old) j x ≡ overlaid (set b j x) old
-unfolding overlaid
-overlaid-put [] old j x h = absurd (omega arith)
-overlaid-put (y ∷ b) [] zero x h = refl
-overlaid-put (y ∷ b) [] (suc j) x h = refl
-overlaid-put (y ∷ b) (z ∷ old) zero x h = refl
-overlaid-put (y ∷ b) (z ∷ old) (suc j) x h = ap (λ (l : List ℕ). y ∷ l) (overlaid-put b old j x (omega arith))
-
--- one put past the end
-pub overlaid-past : (b old : List ℕ) (j x : ℕ) → length b ≤ j → overlaid b old ≡ overlaid (set b j x) old
-overlaid-past b old j x h = ap (λ (l : List ℕ). overlaid l old) (sym (set-out b j x h))

@@ -20,7 +20,6 @@ pub use ending::bring_to_goals;
 pub use ending::can_end;
 pub use entering::can_enter;
 pub use entering::enter;
-pub use entering::follow_list;
 pub use leaving::can_leave;
 pub use leaving::leave;
 pub use motion::is_full;

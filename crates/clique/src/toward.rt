@@ -2,10 +2,9 @@
 ghost use mathlib.Core.Path.{_≡_};
 ghost use Rattle.spec.specs.Clique.{openTarget, lowestOff, cliqueTo};
 ghost use Rattle.spec.specs.State.{across};
-ghost use Rattle.motion.specs.World.{worldOf, madeAll};
+ghost use Rattle.motion.specs.World.{worldIn, madeAll};
 ghost use Rattle.clique.specs.Toward.{offNext};
 use crate::placing::first_empty;
-use motion::Run;
 use motion::cell_at;
 use motion::go;
 use motion::least;
@@ -65,16 +64,18 @@ fn lowest_off(cells: &[u8], goal: &[u8]) -> u8
 // At most n moves: "while a cart is off target, if some such cart's target is empty, the one whose target is listed earliest moves there;
 // otherwise the lowest-numbered such cart moves to the earliest listed empty point"
 pub fn go_toward(
-    run: Run,
+    robots: &mut [u8],
+    vertices: &mut [u8],
+    count: usize,
     zone: &[u8],
     cells: &mut [u8],
     goal: &[u8],
     n: usize,
     out: &mut [u8],
-) -> Run
-    ensures { λ q. ⌜ worldOf q (now (out .exit)) ≡ madeAll (worldOf run (now (out .entry))) (across (now (zone .entry)) (cliqueTo n (now (cells .entry)) (now (goal .entry)))) ⌝ }
+) -> usize
+    ensures { λ k. ⌜ worldIn (now (robots .exit)) (now (vertices .exit)) k (now (out .exit)) ≡ madeAll (worldIn (now (robots .entry)) (now (vertices .entry)) count (now (out .entry))) (across (now (zone .entry)) (cliqueTo n (now (cells .entry)) (now (goal .entry)))) ⌝ }
 {
-    let mut run = run;
+    let mut count = count;
     let mut left = n;
     while 0 < left {
         let q = open_target(cells, goal);
@@ -82,16 +83,16 @@ pub fn go_toward(
         if q < cells.len() {
             let y = cell_at(goal, q);
             let i = seek_cell(cells, y);
-            run = go(run, zone, cells, y, i, q, out);
+            count = go(robots, vertices, count, zone, cells, y, i, q, out);
         } else {
             let x = lowest_off(cells, goal);
             if x == 0 {
-                return run;
+                return count;
             }
             let i = seek_cell(cells, x);
             let f = first_empty(cells);
-            run = go(run, zone, cells, x, i, f, out);
+            count = go(robots, vertices, count, zone, cells, x, i, f, out);
         }
     }
-    run
+    count
 }

@@ -5,50 +5,65 @@ use mathlib.Core.Path.{_≡_}
 use lib.ListN.{length, drop}
 use Rattle.spec.specs.Arrangement.{order}
 use Rattle.spec.specs.State.{arrangementOf}
-use Rattle.motion.specs.States.{stateOf}
+use Rattle.motion.specs.Tables.{onVertices}
 use Rattle.clique.specs.Counts.{count-robot, count-none, count-end}
 use Rattle.clique.proofs.counting.count_robots.Statement.{statement}
 use Rattle.clique.proofs.counting.count_robots.Tie as tie
+use Rattle.clique.proofs.counting.count_robots.Reads as reads
+use Rattle.clique.proofs.counting.count_robots.Lts as lts
+use Rattle.motion.proofs.robot_on.Reads as robot-on-reads
 
 abbrev Inv-loop : tie.InvT-loop
-Inv-loop s zone n₀ k₀ n k = (k ≤ length zone) × (n ≤ k) × (n + length (order (drop k (arrangementOf (stateOf s) zone))) ≡ length (order (arrangementOf (stateOf s) zone)))
+Inv-loop robots zone n₀ k₀ n k = (k ≤ length zone) × (n ≤ k) × (n + length (order (drop k (arrangementOf (onVertices robots) zone))) ≡ length (order (arrangementOf (onVertices robots) zone)))
 
 abbrev μ-loop : tie.MeasureT-loop
-μ-loop s zone n₀ k₀ n k = length zone - k
+μ-loop robots zone n₀ k₀ n k = length zone - k
 
+-- src/counting.rt:16:5
 loop-holds : tie.Need-loop-holds Inv-loop μ-loop
 loop-holds c = (search needs, search needs, omega arith)
 
+-- src/counting.rt:17:41
 shared-slice-read-t9 : tie.Need-shared-slice-read-t9 Inv-loop μ-loop
 shared-slice-read-t9 c = search needs
 
+-- src/counting.rt:17:13
 robot-on-requires : tie.Need-robot-on-requires Inv-loop μ-loop
 robot-on-requires c κs = search needs
 
+-- src/counting.rt:18:9
 add-k : tie.Need-add-k Inv-loop μ-loop
 add-k c = search needs
 
+-- src/counting.rt:20:13
 add-n : tie.Need-add-n Inv-loop μ-loop
 add-n c = search needs
 
+-- src/counting.rt:16:5
 loop-less : tie.Need-loop-less Inv-loop μ-loop
 loop-less c = search needs
 
+-- src/counting.rt:16:5
 loop-again : tie.Need-loop-again Inv-loop μ-loop
-loop-again c = let a = c .before .before .before .before .before .before .before .args in
+loop-again c =
+    let a = c .before .before .before .before .before .before .before .before .args in
     let o = c .before .before .before .before .before .loop in
-    (search needs, search needs, omega (arith, o .inv .2, count-robot (stateOf (a .s)) (a .zone .now) (o .k) (c .before .before .robot-on .result .0) (search needs) (c .before .before .robot-on .ensures) (c .if1 .taken)))
+    (search needs, search needs, omega (arith, o .inv .2, count-robot (onVertices (a .robots .now)) (a .zone .now) (o .k) (c .before .before .robot-on .result .0) (search needs) (c .before .before .robot-on .ensures) (c .if1 .taken)))
 
+-- src/counting.rt:16:5
 loop-less-2 : tie.Need-loop-less-2 Inv-loop μ-loop
 loop-less-2 c = search needs
 
+-- src/counting.rt:16:5
 loop-again-2 : tie.Need-loop-again-2 Inv-loop μ-loop
-loop-again-2 c = let a = c .before .before .before .before .before .before .before .args in
+loop-again-2 c =
+    let a = c .before .before .before .before .before .before .before .before .args in
     let o = c .before .before .before .before .before .loop in
-    (search needs, search needs, omega (arith, o .inv .2, count-none (stateOf (a .s)) (a .zone .now) (o .k) (c .before .before .robot-on .result .0) (search needs) (c .before .before .robot-on .ensures) (c .if1 .left)))
+    (search needs, search needs, omega (arith, o .inv .2, count-none (onVertices (a .robots .now)) (a .zone .now) (o .k) (c .before .before .robot-on .result .0) (search needs) (c .before .before .robot-on .ensures) (c .if1 .left)))
 
+-- src/counting.rt:11:1
 returns : tie.Need-returns Inv-loop μ-loop
-returns c = omega (arith, c .before .loop .inv .2, count-end (stateOf (c .before .before .before .args .s)) (c .before .before .before .args .zone .now) (c .before .loop .k) (search needs))
+returns c = omega (arith, c .before .loop .inv .2, count-end (onVertices (c .before .before .before .before .args .robots .now)) (c .before .before .before .before .args .zone .now) (c .before .loop .k) (search needs))
 
 pub count-robots-spec : {M : Type 1} → statement M
 count-robots-spec =

@@ -1,20 +1,28 @@
 use borrow.Author.Needs.{needs}
-use Rattle.motion.specs.States.{stateOf}
+use Rattle.motion.specs.Tables.{onVertices}
 use Rattle.clique.specs.Counts.{last-free-none, last-free-is}
+use borrow.Author.Needs.{needs}
 use Rattle.clique.proofs.counting.last_free.Statement.{statement}
 use Rattle.clique.proofs.counting.last_free.Tie as tie
+use Rattle.clique.proofs.counting.last_free.Reads as reads
+use Rattle.clique.proofs.counting.last_free.Lts as lts
+use Rattle.clique.proofs.counting.count_robots.Reads as count-robots-reads
 
+-- src/counting.rt:31:9
 returns : tie.Need-returns
-returns c = last-free-none (stateOf (c .before .before .args .s)) (c .before .before .args .zone .now) (c .if1 .taken)
+returns c = last-free-none (onVertices (c .before .before .before .args .robots .now)) (c .before .before .before .args .zone .now) (c .if1 .taken)
 
+-- src/counting.rt:33:9
 count-robots-requires : tie.Need-count-robots-requires
 count-robots-requires c κs = search needs
 
+-- src/counting.rt:34:10
 sub-result : tie.Need-sub-result
 sub-result c = search needs
 
+-- src/counting.rt:27:1
 returns-2 : tie.Need-returns-2
-returns-2 c = last-free-is (stateOf (c .before .before .before .args .s)) (c .before .before .before .args .zone .now) (c .count-robots .result) (c .count-robots .ensures) (c .before .if1 .left)
+returns-2 c = last-free-is (onVertices (c .before .before .before .before .args .robots .now)) (c .before .before .before .before .args .zone .now) (c .count-robots .result) (c .count-robots .ensures) (c .before .if1 .left)
 
 pub last-free-spec : {M : Type 1} → statement M
 last-free-spec = tie.close (tie.spec returns count-robots-requires sub-result returns-2)

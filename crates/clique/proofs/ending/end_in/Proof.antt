@@ -5,46 +5,68 @@ use mathlib.Core.List.{List}
 use lib.ListN.{length}
 use Rattle.spec.specs.Arrangement.{Move}
 use Rattle.spec.specs.State.{arrangementOf, across}
-use Rattle.motion.specs.States.{stateOf}
-use Rattle.motion.specs.World.{worldOf, madeAll}
+use Rattle.motion.specs.Tables.{onVertices}
+use Rattle.motion.specs.World.{worldIn, madeAll}
 use Rattle.motion.specs.Across.{arrangement-length}
 use Rattle.motion.specs.Cells.{overlaid-all}
 use Rattle.clique.specs.Comparing.{end-is}
 use Rattle.spec.specs.Clique.{cliqueTo}
+use borrow.Author.Needs.{needs}
 use Rattle.clique.proofs.ending.end_in.Statement.{statement}
 use Rattle.clique.proofs.ending.end_in.Tie as tie
+use Rattle.clique.proofs.ending.end_in.Reads as reads
+use Rattle.clique.proofs.ending.end_in.Lts as lts
+use Rattle.clique.proofs.toward.go_toward.Reads as go-toward-reads
+use Rattle.motion.proofs.cells_of.Reads as cells-of-reads
 
+-- src/ending.rt:53:5
 cells-of-requires : tie.Need-cells-of-requires
 cells-of-requires c κs = search needs
 
+-- src/ending.rt:54:5
 cells-of-requires-2 : tie.Need-cells-of-requires-2
 cells-of-requires-2 c κs = search needs
 
+-- src/ending.rt:55:13
 mul-n : tie.Need-mul-n
 mul-n c = search needs
 
+-- src/ending.rt:56:5
 go-toward-requires : tie.Need-go-toward-requires
 go-toward-requires c κs = search needs
 
+-- src/ending.rt:40:1
 same-length : tie.Need-same-length
 same-length c = search needs
 
+-- src/ending.rt:40:1
 same-length-2 : tie.Need-same-length-2
 same-length-2 c = search needs
 
+-- src/ending.rt:40:1
 same-length-3 : tie.Need-same-length-3
 same-length-3 c = search needs
 
+-- src/ending.rt:40:1
+same-length-4 : tie.Need-same-length-4
+same-length-4 c = search needs
+
+-- src/ending.rt:40:1
+same-length-5 : tie.Need-same-length-5
+same-length-5 c = search needs
+
+-- src/ending.rt:40:1
 returns : tie.Need-returns
-returns c = let p = c .before .before .before .before .before .before .before .before .before .before .before .before .before .before .before .before .before .before .before .before .before .args in
+returns c =
+    let p = c .before .before .before .before .before .before .before .before .before .before .before .before .before .before .before .before .before .before .before .before .before .before .before .before .before .before .before .before .before .before .args in
     let z = p .zone .now in
-    let s = stateOf (p .run .state) in
+    let s = onVertices (p .robots .now) in
     let a = arrangementOf s z in
-    let g = arrangementOf (stateOf (p .goals)) z in
-    let f = c .before .before .before .before .before .before .before .before .before .before .before .before .before .before .cells-of .ensures ∙ overlaid-all a (p .cells .now) (arrangement-length s z ∙ sym (c .before .before .before .before .before .before .before .before .before .before .before .before .before .before .before .before .before .before .before .before .before .pre .1)) in
-    let h = c .before .before .before .before .before .before .before .before .before .before .cells-of2 .ensures ∙ overlaid-all g (p .goal .now) (arrangement-length (stateOf (p .goals)) z ∙ sym (c .before .before .before .before .before .before .before .before .before .before .before .before .before .before .before .before .before .before .before .before .before .pre .2)) in
-    c .before .before .before .before .go-toward .ensures
-    ∙ ap (λ (ms : List Move). madeAll (worldOf (p .run) (p .out .now)) (across z ms))
+    let g = arrangementOf (onVertices (p .goals .now)) z in
+    let f = c .before .before .before .before .before .before .before .before .before .before .before .before .before .before .before .before .before .before .before .before .cells-of .ensures ∙ overlaid-all a (p .cells .now) (arrangement-length s z ∙ sym (c .before .before .before .before .before .before .before .before .before .before .before .before .before .before .before .before .before .before .before .before .before .before .before .before .before .before .before .before .before .before .pre .1)) in
+    let h = c .before .before .before .before .before .before .before .before .before .before .before .before .before .before .before .before .cells-of2 .ensures ∙ overlaid-all g (p .goal .now) (arrangement-length (onVertices (p .goals .now)) z ∙ sym (c .before .before .before .before .before .before .before .before .before .before .before .before .before .before .before .before .before .before .before .before .before .before .before .before .before .before .before .before .before .before .pre .2)) in
+    c .before .before .before .before .before .before .before .before .go-toward .ensures
+    ∙ ap (λ (ms : List Move). madeAll (worldIn (p .robots .now) (p .vertices .now) (p .count) (p .out .now)) (across z ms))
     (ap₂ (cliqueTo (length z * 2)) f h ∙ end-is a g (length z) (sym (arrangement-length s z)))
 
 pub end-in-spec : {M : Type 1} → statement M
@@ -58,4 +80,6 @@ end-in-spec =
     same-length
     same-length-2
     same-length-3
+    same-length-4
+    same-length-5
     returns)

@@ -5,43 +5,66 @@ use mathlib.Core.List.{List}
 use lib.ListN.{length}
 use Rattle.spec.specs.Arrangement.{Move}
 use Rattle.spec.specs.State.{arrangementOf, across}
-use Rattle.motion.specs.States.{stateOf}
-use Rattle.motion.specs.World.{worldOf, madeAll}
+use Rattle.motion.specs.Tables.{onVertices}
+use Rattle.motion.specs.World.{worldIn, madeAll}
 use Rattle.motion.specs.Across.{arrangement-length}
 use Rattle.motion.specs.Cells.{overlaid-all}
 use Rattle.clique.specs.Entering.{named-cells}
 use Rattle.spec.specs.Clique.{cliqueTo}
+use borrow.Author.Needs.{needs}
 use Rattle.clique.proofs.entering.fill_in.Statement.{statement}
 use Rattle.clique.proofs.entering.fill_in.Tie as tie
+use Rattle.clique.proofs.entering.fill_in.Reads as reads
+use Rattle.clique.proofs.entering.fill_in.Lts as lts
+use Rattle.clique.proofs.entering.goal_cells.Reads as goal-cells-reads
+use Rattle.clique.proofs.toward.go_toward.Reads as go-toward-reads
+use Rattle.motion.proofs.cells_of.Reads as cells-of-reads
 
+-- src/entering.rt:139:5
 cells-of-requires : tie.Need-cells-of-requires
 cells-of-requires c κs = search needs
 
+-- src/entering.rt:140:5
 goal-cells-requires : tie.Need-goal-cells-requires
 goal-cells-requires c κs = search needs
 
+-- src/entering.rt:141:13
 mul-n : tie.Need-mul-n
 mul-n c = search needs
 
+-- src/entering.rt:142:5
 go-toward-requires : tie.Need-go-toward-requires
 go-toward-requires c κs = search needs
 
+-- src/entering.rt:125:1
 same-length : tie.Need-same-length
 same-length c = search needs
 
+-- src/entering.rt:125:1
 same-length-2 : tie.Need-same-length-2
 same-length-2 c = search needs
 
+-- src/entering.rt:125:1
 same-length-3 : tie.Need-same-length-3
 same-length-3 c = search needs
 
+-- src/entering.rt:125:1
+same-length-4 : tie.Need-same-length-4
+same-length-4 c = search needs
+
+-- src/entering.rt:125:1
+same-length-5 : tie.Need-same-length-5
+same-length-5 c = search needs
+
+-- src/entering.rt:125:1
 returns : tie.Need-returns
-returns c = let p = c .before .before .before .before .before .before .before .before .before .before .before .before .before .before .before .before .before .before .before .before .before .before .args in
+returns c =
+    let p = c .before .before .before .before .before .before .before .before .before .before .before .before .before .before .before .before .before .before .before .before .before .before .before .before .before .before .before .before .before .before .args in
     let z = p .zone .now in
-    let s = stateOf (p .run .state) in
-    let f = c .before .before .before .before .before .before .before .before .before .before .before .before .before .before .cells-of .ensures ∙ overlaid-all (arrangementOf s z) (p .cells .now) (arrangement-length s z ∙ sym (c .before .before .before .before .before .before .before .before .before .before .before .before .before .before .before .before .before .before .before .before .before .before .pre .1)) in
-    let h = c .before .before .before .before .before .before .before .before .before .before .goal-cells .ensures ∙ named-cells (p .list .now) (p .j) (c .before .before .before .before .before .before .before .before .before .before .before .before .before .before .before .before .before .before .before .before .before .before .pre .3) in
-    c .before .before .before .before .go-toward .ensures ∙ ap (λ (ms : List Move). madeAll (worldOf (p .run) (p .out .now)) (across z ms)) (ap₂ (cliqueTo (length z * 2)) f h)
+    let s = onVertices (p .robots .now) in
+    let f = c .before .before .before .before .before .before .before .before .before .before .before .before .before .before .before .before .before .before .before .before .cells-of .ensures ∙ overlaid-all (arrangementOf s z) (p .cells .now) (arrangement-length s z ∙ sym (c .before .before .before .before .before .before .before .before .before .before .before .before .before .before .before .before .before .before .before .before .before .before .before .before .before .before .before .before .before .before .pre .1)) in
+    let h = c .before .before .before .before .before .before .before .before .before .before .before .before .before .before .before .before .goal-cells .ensures ∙ named-cells (p .list .now) (p .j) (c .before .before .before .before .before .before .before .before .before .before .before .before .before .before .before .before .before .before .before .before .before .before .before .before .before .before .before .before .before .before .pre .3) in
+    c .before .before .before .before .before .before .before .before .go-toward .ensures ∙ ap (λ (ms : List Move). madeAll (worldIn (p .robots .now) (p .vertices .now) (p .count) (p .out .now)) (across z ms)) (ap₂ (cliqueTo (length z * 2)) f h)
 
 pub fill-in-spec : {M : Type 1} → statement M
 fill-in-spec =
@@ -54,4 +77,6 @@ fill-in-spec =
     same-length
     same-length-2
     same-length-3
+    same-length-4
+    same-length-5
     returns)

@@ -2,44 +2,73 @@ use borrow.Author.Needs.{needs}
 use mathlib.Core.Path.{ap, _∙_}
 use Rattle.spec.specs.Arrangement.{mv, seek}
 use Rattle.spec.specs.State.{arrangementOf}
-use Rattle.motion.specs.States.{stateOf}
-use Rattle.motion.specs.World.{worldOf, made}
+use Rattle.motion.specs.Tables.{onVertices}
+use Rattle.motion.specs.World.{worldIn, made}
 use Rattle.clique.specs.Leaving.{room-none, room-made, made-nothing, made-single}
+use borrow.Author.Needs.{needs}
 use Rattle.clique.proofs.leaving.make_room.Statement.{statement}
 use Rattle.clique.proofs.leaving.make_room.Tie as tie
+use Rattle.clique.proofs.leaving.make_room.Reads as reads
+use Rattle.clique.proofs.leaving.make_room.Lts as lts
+use Rattle.clique.proofs.leaving.make_move.Reads as make-move-reads
+use Rattle.clique.proofs.leaving.room_move.Reads as room-move-reads
+use Rattle.motion.proofs.robot_at.Reads as robot-at-reads
 
+-- src/leaving.rt:83:9
 robot-at-requires : tie.Need-robot-at-requires
 robot-at-requires c κs = search needs
 
-returns : tie.Need-returns
-returns c = let a = c .before .before .before .before .before .before .args in
-    made-nothing (worldOf (a .run) (a .out .now)) (a .zone .now) _
-    (room-none (arrangementOf (stateOf (a .run .state)) (a .zone .now)) (a .j) (c .before .before .robot-at .result .0) (c .before .before .robot-at .ensures) (c .if1 .taken))
-
-room-move-requires : tie.Need-room-move-requires
-room-move-requires c κs = search needs
-
-make-move-requires : tie.Need-make-move-requires
-make-move-requires c κs = search needs
-
+-- src/leaving.rt:85:9
 same-length : tie.Need-same-length
 same-length c = search needs
 
+-- src/leaving.rt:85:9
+returns : tie.Need-returns
+returns c =
+    let a = c .before .before .before .before .before .before .before .before .args in
+    made-nothing (worldIn (a .robots .now) (a .vertices .now) (a .count) (a .out .now)) (a .zone .now) _
+    (room-none (arrangementOf (onVertices (a .robots .now)) (a .zone .now)) (a .j) (c .before .before .robot-at .result .0) (c .before .before .robot-at .ensures) (c .if1 .taken))
+
+-- src/leaving.rt:87:9
+room-move-requires : tie.Need-room-move-requires
+room-move-requires c κs = search needs
+
+-- src/leaving.rt:88:5
+make-move-requires : tie.Need-make-move-requires
+make-move-requires c κs = search needs
+
+-- src/leaving.rt:73:1
+same-length-2 : tie.Need-same-length-2
+same-length-2 c = search needs
+
+-- src/leaving.rt:73:1
+same-length-3 : tie.Need-same-length-3
+same-length-3 c = search needs
+
+-- src/leaving.rt:73:1
+same-length-4 : tie.Need-same-length-4
+same-length-4 c = search needs
+
+-- src/leaving.rt:73:1
 returns-2 : tie.Need-returns-2
-returns-2 c = let a = c .before .before .before .before .before .before .before .before .before .before .before .args in
-    let g = arrangementOf (stateOf (a .run .state)) (a .zone .now) in
-    let x = c .before .before .before .before .before .before .before .robot-at .result .0 in
-    made-single (worldOf (a .run) (a .out .now)) _ (a .zone .now) (mv x (a .j) (seek 0 g)) _
-    (c .before .before .make-move .ensures ∙ ap (made (worldOf (a .run) (a .out .now))) (c .before .before .before .before .room-move .ensures))
-    (room-made g (a .j) x (c .before .before .before .before .before .before .before .robot-at .ensures) (c .before .before .before .before .before .if1 .left))
+returns-2 c =
+    let a = c .before .before .before .before .before .before .before .before .before .before .before .before .before .before .before .before .before .before .before .before .args in
+    let g = arrangementOf (onVertices (a .robots .now)) (a .zone .now) in
+    let x = c .before .before .before .before .before .before .before .before .before .before .before .before .before .before .robot-at .result .0 in
+    made-single (worldIn (a .robots .now) (a .vertices .now) (a .count) (a .out .now)) _ (a .zone .now) (mv x (a .j) (seek 0 g)) _
+    (c .before .before .before .before .before .before .make-move .ensures ∙ ap (made (worldIn (a .robots .now) (a .vertices .now) (a .count) (a .out .now))) (c .before .before .before .before .before .before .before .before .before .before .room-move .ensures))
+    (room-made g (a .j) x (c .before .before .before .before .before .before .before .before .before .before .before .before .before .before .robot-at .ensures) (c .before .before .before .before .before .before .before .before .before .before .before .before .if1 .left))
 
 pub make-room-spec : {M : Type 1} → statement M
 make-room-spec =
     tie.close
     (tie.spec
     robot-at-requires
+    same-length
     returns
     room-move-requires
     make-move-requires
-    same-length
+    same-length-2
+    same-length-3
+    same-length-4
     returns-2)

@@ -4,24 +4,34 @@ use mathlib.Core.Path.{refl, ap, _∙_}
 use lib.ListN.{getD}
 use Rattle.spec.specs.Arrangement.{seek}
 use Rattle.spec.specs.State.{arrangementOf}
-use Rattle.motion.specs.States.{stateOf}
+use Rattle.motion.specs.Tables.{onVertices}
 use Rattle.motion.specs.Across.{across-move}
+use borrow.Author.Needs.{needs}
 use Rattle.clique.proofs.leaving.room_move.Statement.{statement}
 use Rattle.clique.proofs.leaving.room_move.Tie as tie
+use Rattle.clique.proofs.leaving.room_move.Reads as reads
+use Rattle.clique.proofs.leaving.room_move.Lts as lts
+use Rattle.clique.proofs.placing.first_free.Reads as first-free-reads
+use Rattle.motion.proofs.vertex_at.Reads as vertex-at-reads
 
+-- src/leaving.rt:62:9
 first-free-requires : tie.Need-first-free-requires
 first-free-requires c κs = search needs
 
+-- src/leaving.rt:63:9
 vertex-at-requires : tie.Need-vertex-at-requires
 vertex-at-requires c κs = search needs
 
+-- src/leaving.rt:64:9
 vertex-at-requires-2 : tie.Need-vertex-at-requires-2
 vertex-at-requires-2 c κs = search needs
 
+-- src/leaving.rt:59:1
 returns : tie.Need-returns
-returns c = let a = c .before .before .before .before .args in
+returns c =
+    let a = c .before .before .before .before .before .args in
     let z = a .zone .now in
-    across-move z _ (a .x .0) (a .j) (seek 0 (arrangementOf (stateOf (a .s)) z)) _ _ refl (c .before .vertex-at .ensures) (c .vertex-at2 .ensures ∙ ap (λ (i : ℕ). getD z i 0) (c .before .before .first-free .ensures))
+    across-move z _ (a .x .0) (a .j) (seek 0 (arrangementOf (onVertices (a .robots .now)) z)) _ _ refl (c .before .vertex-at .ensures) (c .vertex-at2 .ensures ∙ ap (λ (i : ℕ). getD z i 0) (c .before .before .first-free .ensures))
 
 pub room-move-spec : {M : Type 1} → statement M
 room-move-spec =
