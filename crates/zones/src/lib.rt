@@ -13,5 +13,4 @@ pub use reach::can_end;
 pub use reach::can_enter;
 pub use reach::can_leave;
 pub use reach::fills;
-pub use reach::fills_in;
 pub use reach::is_full;

@@ -4,15 +4,12 @@ ghost use Prim.Native.Nat.{_≤_, _<_};
 ghost use lib.ListN.{length};
 ghost use lib.Dec.{eqb};
 ghost use Rattle.spec.specs.Outcome.{_&&_};
-ghost use Rattle.spec.specs.Arrangement.{order, full, lastFree};
+ghost use Rattle.spec.specs.Arrangement.{full, lastFree};
 ghost use Rattle.spec.specs.Ring.{ringBehind};
 ghost use Rattle.spec.specs.State.{arrangementOf};
 ghost use Rattle.spec.specs.ZoneKind.{behindOf, canLeave, canEnter, canEnd};
-ghost use Rattle.motion.specs.States.{stateOf};
 ghost use Rattle.motion.specs.Tables.{onVertices};
-use motion::State;
 use numbering::Robot;
-use numbering::Vertex;
 
 // "in a ring, the first cart met going backward from to, 255 if the ring is empty"
 fn behind_round(robots: &[u8], zone: &[u8], j: usize) -> u8
@@ -38,68 +35,38 @@ pub fn behind_of(kind: u8, robots: &[u8], zone: &[u8], j: usize) -> u8
     }
 }
 
-// The number of robots in a zone, by the lent table.
-fn robots_inside(robots: &[u8], zone: &[u8]) -> usize
-    ensures { λ n. ⌜ n ≡ length (order (arrangementOf (onVertices (now (robots .entry))) (now (zone .entry)))) ⌝ }
-{
-    let mut n: usize = 0;
-    let mut k: usize = 0;
-    while k < zone.len() {
-        let r = motion::robot_in(robots, Vertex(zone[k]));
-        k += 1;
-        if r != 255 {
-            n += 1;
-        }
-    }
-    n
-}
-
-// Does whoever enters fill a clique, by the lent table?
-pub fn fills_in(kind: u8, robots: &[u8], zone: &[u8]) -> bool
-    ensures { λ b. ⌜ b ≡ (eqb kind 3 && lastFree (arrangementOf (onVertices (now (robots .entry))) (now (zone .entry)))) ⌝ }
-{
-    if kind != 3 {
-        return false;
-    }
-    if zone.len() == 0 {
-        return false;
-    }
-    let n = robots_inside(robots, zone);
-    n == zone.len() - 1
-}
-
 // "'Full' means a cart on every point."
-pub fn is_full(s: State, zone: &[u8]) -> bool
-    ensures { λ b. ⌜ b ≡ full (arrangementOf (stateOf s) (now (zone .entry))) ⌝ }
+pub fn is_full(robots: &[u8], zone: &[u8]) -> bool
+    ensures { λ b. ⌜ b ≡ full (arrangementOf (onVertices (now (robots .entry))) (now (zone .entry))) ⌝ }
 {
-    clique::is_full(s, zone)
+    clique::is_full(robots, zone)
 }
 
 // Does whoever enters fill a clique, so that the step has a follow list?
-pub fn fills(kind: u8, s: State, zone: &[u8]) -> bool
-    ensures { λ b. ⌜ b ≡ (eqb kind 3 && lastFree (arrangementOf (stateOf s) (now (zone .entry)))) ⌝ }
+pub fn fills(kind: u8, robots: &[u8], zone: &[u8]) -> bool
+    ensures { λ b. ⌜ b ≡ (eqb kind 3 && lastFree (arrangementOf (onVertices (now (robots .entry))) (now (zone .entry)))) ⌝ }
 {
     if kind == 3 {
-        return clique::last_free(s, zone);
+        return clique::last_free(robots, zone);
     }
     false
 }
 
 // "Leaving needs a reachable arrangement with the cart at from": robot r at place j.
-pub fn can_leave(kind: u8, s: State, zone: &[u8], r: Robot, j: usize) -> bool
-    ensures { λ b. ⌜ b ≡ canLeave kind (arrangementOf (stateOf s) (now (zone .entry))) (r .0) j ⌝ }
+pub fn can_leave(kind: u8, robots: &[u8], zone: &[u8], r: Robot, j: usize) -> bool
+    ensures { λ b. ⌜ b ≡ canLeave kind (arrangementOf (onVertices (now (robots .entry))) (now (zone .entry))) (r .0) j ⌝ }
 {
     match kind {
-        3 => clique::can_leave(s, zone, r, j),
-        4 => ring::can_leave(s, zone, r, j),
-        _ => hall::can_leave(s, zone, r, j),
+        3 => clique::can_leave(robots, zone, r, j),
+        4 => ring::can_leave(robots, zone, r, j),
+        _ => hall::can_leave(robots, zone, r, j),
     }
 }
 
 // "Entering needs a reachable one with to empty and the named neighbour": robot r at place j of a zone that is not full.
 pub fn can_enter(
     kind: u8,
-    s: State,
+    robots: &[u8],
     zone: &[u8],
     r: Robot,
     j: usize,
@@ -107,23 +74,23 @@ pub fn can_enter(
     list: &[u8],
 ) -> bool
     requires { ⌜ (length (now zone) ≤ 128) × (length (now list) ≤ 128) ⌝ }
-    ensures { λ b. ⌜ b ≡ canEnter kind (arrangementOf (stateOf s) (now (zone .entry))) (r .0) j behind (now (list .entry)) ⌝ }
+    ensures { λ b. ⌜ b ≡ canEnter kind (arrangementOf (onVertices (now (robots .entry))) (now (zone .entry))) (r .0) j behind (now (list .entry)) ⌝ }
 {
     match kind {
-        3 => clique::can_enter(s, zone, r, j, behind, list),
-        4 => ring::can_enter(s, zone, j, behind),
-        _ => hall::can_enter(s, zone, j, behind),
+        3 => clique::can_enter(robots, zone, r, j, behind, list),
+        4 => ring::can_enter(robots, zone, j, behind),
+        _ => hall::can_enter(robots, zone, j, behind),
     }
 }
 
 // Is the goals' arrangement in the configuration?
-pub fn can_end(kind: u8, s: State, zone: &[u8], goals: State) -> bool
+pub fn can_end(kind: u8, robots: &[u8], zone: &[u8], goals: &[u8]) -> bool
     requires { ⌜ length (now zone) ≤ 128 ⌝ }
-    ensures { λ b. ⌜ b ≡ canEnd kind (arrangementOf (stateOf s) (now (zone .entry))) (arrangementOf (stateOf goals) (now (zone .entry))) ⌝ }
+    ensures { λ b. ⌜ b ≡ canEnd kind (arrangementOf (onVertices (now (robots .entry))) (now (zone .entry))) (arrangementOf (onVertices (now (goals .entry))) (now (zone .entry))) ⌝ }
 {
     match kind {
-        3 => clique::can_end(s, zone, goals),
-        4 => ring::can_end(s, zone, goals),
-        _ => hall::can_end(s, zone, goals),
+        3 => clique::can_end(robots, zone, goals),
+        4 => ring::can_end(robots, zone, goals),
+        _ => hall::can_end(robots, zone, goals),
     }
 }

@@ -1,49 +1,88 @@
 use Rattle.zones.specs.Kinds.{clique-end, ring-end, hall-end, ring-can-end}
-use Rattle.motion.specs.World.{worldOf, madeAll}
-use Rattle.motion.specs.States.{stateOf}
+use Rattle.motion.specs.World.{worldIn, madeAll}
+use Rattle.motion.specs.Tables.{onVertices}
 use Rattle.spec.specs.State.{across, arrangementOf}
 use Rattle.spec.specs.Arrangement.{Move}
 use mathlib.Core.List.{List}
 use mathlib.Core.Path.{ap, _∙_}
 use borrow.Author.Needs.{needs}
+use borrow.Author.Needs.{needs}
 use Rattle.zones.proofs.moves.bring_to_goals.Statement.{statement}
 use Rattle.zones.proofs.moves.bring_to_goals.Tie as tie
+use Rattle.zones.proofs.moves.bring_to_goals.Reads as reads
+use Rattle.zones.proofs.moves.bring_to_goals.Lts as lts
+use Rattle.clique.proofs.bring_to_goals.Reads as bring-to-goals-reads
+use Rattle.hall.proofs.end.Reads as end-reads
+use Rattle.ring.proofs.end.Reads as end-reads′
 
+-- src/moves.rt:78:14
 bring-to-goals-requires : tie.Need-bring-to-goals-requires
 bring-to-goals-requires c κs = search needs
 
+-- src/moves.rt:79:14
 end-requires : tie.Need-end-requires
-end-requires c κs = (c .before .before .before .before .pre .0, (c .before .before .before .before .pre .1 .0, ring-can-end _ (c .before .match .keys2) _ _ ∙ c .before .before .before .before .pre .1 .1))
+end-requires c κs = (c .before .before .before .before .before .before .before .before .before .pre .0, (c .before .before .before .before .before .before .before .before .before .pre .1 .0, ring-can-end _ (c .before .before .before .match .keys2) _ _ ∙ c .before .before .before .before .before .before .before .before .before .pre .1 .1))
 
+-- src/moves.rt:80:14
 end-requires-2 : tie.Need-end-requires-2
 end-requires-2 c κs = search needs
 
+-- src/moves.rt:63:1
 same-length : tie.Need-same-length
 same-length c = search needs
 
-returns : tie.Need-returns
-returns c =
-    let a = c .before .before .before .before .before .before .before .args in
-    let z = a .zone .now in
-    c .before .before .bring-to-goals .ensures ∙ ap (λ (ms : List Move). madeAll (worldOf (a .run) (a .out .now)) (across z ms)) (clique-end _ (c .before .before .before .before .match .keys1) (arrangementOf (stateOf (a .run .state)) z) (arrangementOf (stateOf (a .goals)) z))
-
+-- src/moves.rt:63:1
 same-length-2 : tie.Need-same-length-2
 same-length-2 c = search needs
 
-returns-2 : tie.Need-returns-2
-returns-2 c =
-    let a = c .before .before .before .before .before .before .before .args in
-    let z = a .zone .now in
-    c .before .before .end .ensures ∙ ap (λ (ms : List Move). madeAll (worldOf (a .run) (a .out .now)) (across z ms)) (ring-end _ (c .before .before .before .before .match .keys2) (arrangementOf (stateOf (a .run .state)) z) (arrangementOf (stateOf (a .goals)) z))
-
+-- src/moves.rt:63:1
 same-length-3 : tie.Need-same-length-3
 same-length-3 c = search needs
 
+-- src/moves.rt:63:1
+returns : tie.Need-returns
+returns c =
+    let a = c .before .before .before .before .before .before .before .before .before .before .before .before .before .before .before .before .args in
+    let z = a .zone .now in
+    c .before .before .before .before .before .before .bring-to-goals .ensures ∙ ap (λ (ms : List Move). madeAll (worldIn (a .robots .now) (a .vertices .now) (a .count) (a .out .now)) (across z ms)) (clique-end _ (c .before .before .before .before .before .before .before .before .before .before .match .keys1) (arrangementOf (onVertices (a .robots .now)) z) (arrangementOf (onVertices (a .goals .now)) z))
+
+-- src/moves.rt:63:1
+same-length-4 : tie.Need-same-length-4
+same-length-4 c = search needs
+
+-- src/moves.rt:63:1
+same-length-5 : tie.Need-same-length-5
+same-length-5 c = search needs
+
+-- src/moves.rt:63:1
+same-length-6 : tie.Need-same-length-6
+same-length-6 c = search needs
+
+-- src/moves.rt:63:1
+returns-2 : tie.Need-returns-2
+returns-2 c =
+    let a = c .before .before .before .before .before .before .before .before .before .before .before .before .before .before .before .before .args in
+    let z = a .zone .now in
+    c .before .before .before .before .before .before .end .ensures ∙ ap (λ (ms : List Move). madeAll (worldIn (a .robots .now) (a .vertices .now) (a .count) (a .out .now)) (across z ms)) (ring-end _ (c .before .before .before .before .before .before .before .before .before .before .match .keys2) (arrangementOf (onVertices (a .robots .now)) z) (arrangementOf (onVertices (a .goals .now)) z))
+
+-- src/moves.rt:63:1
+same-length-7 : tie.Need-same-length-7
+same-length-7 c = search needs
+
+-- src/moves.rt:63:1
+same-length-8 : tie.Need-same-length-8
+same-length-8 c = search needs
+
+-- src/moves.rt:63:1
+same-length-9 : tie.Need-same-length-9
+same-length-9 c = search needs
+
+-- src/moves.rt:63:1
 returns-3 : tie.Need-returns-3
 returns-3 c =
-    let a = c .before .before .before .before .before .before .before .args in
+    let a = c .before .before .before .before .before .before .before .before .before .before .before .before .before .before .before .before .args in
     let z = a .zone .now in
-    c .before .before .end2 .ensures ∙ ap (λ (ms : List Move). madeAll (worldOf (a .run) (a .out .now)) (across z ms)) (hall-end _ (c .before .before .before .before .match .rest .0 .1) (c .before .before .before .before .match .rest .1) (arrangementOf (stateOf (a .run .state)) z) (arrangementOf (stateOf (a .goals)) z))
+    c .before .before .before .before .before .before .end2 .ensures ∙ ap (λ (ms : List Move). madeAll (worldIn (a .robots .now) (a .vertices .now) (a .count) (a .out .now)) (across z ms)) (hall-end _ (c .before .before .before .before .before .before .before .before .before .before .match .rest .0 .1) (c .before .before .before .before .before .before .before .before .before .before .match .rest .1) (arrangementOf (onVertices (a .robots .now)) z) (arrangementOf (onVertices (a .goals .now)) z))
 
 pub bring-to-goals-spec : {M : Type 1} → statement M
 bring-to-goals-spec =
@@ -53,8 +92,14 @@ bring-to-goals-spec =
     end-requires
     end-requires-2
     same-length
-    returns
     same-length-2
-    returns-2
     same-length-3
+    returns
+    same-length-4
+    same-length-5
+    same-length-6
+    returns-2
+    same-length-7
+    same-length-8
+    same-length-9
     returns-3)

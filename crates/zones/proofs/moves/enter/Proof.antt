@@ -2,48 +2,87 @@ use mathlib.Core.Path.{ap, _∙_}
 use mathlib.Core.List.{List}
 use Rattle.spec.specs.Arrangement.{Move}
 use Rattle.spec.specs.State.{across, arrangementOf}
-use Rattle.motion.specs.States.{stateOf}
-use Rattle.motion.specs.World.{worldOf, madeAll}
+use Rattle.motion.specs.Tables.{onVertices}
+use Rattle.motion.specs.World.{worldIn, madeAll}
 use Rattle.zones.specs.Kinds.{clique-enter, ring-enter, hall-enter}
+use borrow.Author.Needs.{needs}
 use borrow.Author.Needs.{needs}
 use Rattle.zones.proofs.moves.enter.Statement.{statement}
 use Rattle.zones.proofs.moves.enter.Tie as tie
+use Rattle.zones.proofs.moves.enter.Reads as reads
+use Rattle.zones.proofs.moves.enter.Lts as lts
+use Rattle.clique.proofs.enter.Reads as entering-enter-reads
+use Rattle.hall.proofs.enter.Reads as enter-reads
+use Rattle.ring.proofs.enter.Reads as enter-reads′
 
+-- src/moves.rt:56:14
 enter-requires : tie.Need-enter-requires
 enter-requires c κs = search needs
 
+-- src/moves.rt:57:14
 enter-requires-2 : tie.Need-enter-requires-2
 enter-requires-2 c κs = search needs
 
+-- src/moves.rt:58:14
 enter-requires-3 : tie.Need-enter-requires-3
 enter-requires-3 c κs = search needs
 
+-- src/moves.rt:39:1
 same-length : tie.Need-same-length
 same-length c = search needs
 
-returns : tie.Need-returns
-returns c =
-    let a = c .before .before .before .before .before .before .before .before .args in
-    let z = a .zone .now in
-    c .before .before .enter .ensures ∙ ap (λ (ms : List Move). madeAll (worldOf (a .run) (a .out .now)) (across z ms)) (clique-enter _ (c .before .before .before .before .match .keys1) (arrangementOf (stateOf (a .run .state)) z) (a .j) (a .behind) (a .list .now))
-
+-- src/moves.rt:39:1
 same-length-2 : tie.Need-same-length-2
 same-length-2 c = search needs
 
-returns-2 : tie.Need-returns-2
-returns-2 c =
-    let a = c .before .before .before .before .before .before .before .before .args in
-    let z = a .zone .now in
-    c .before .before .enter2 .ensures ∙ ap (λ (ms : List Move). madeAll (worldOf (a .run) (a .out .now)) (across z ms)) (ring-enter _ (c .before .before .before .before .match .keys2) (arrangementOf (stateOf (a .run .state)) z) (a .j) (a .behind) (a .list .now))
-
+-- src/moves.rt:39:1
 same-length-3 : tie.Need-same-length-3
 same-length-3 c = search needs
 
+-- src/moves.rt:39:1
+returns : tie.Need-returns
+returns c =
+    let a = c .before .before .before .before .before .before .before .before .before .before .before .before .before .before .before .before .args in
+    let z = a .zone .now in
+    c .before .before .before .before .before .before .enter .ensures ∙ ap (λ (ms : List Move). madeAll (worldIn (a .robots .now) (a .vertices .now) (a .count) (a .out .now)) (across z ms)) (clique-enter _ (c .before .before .before .before .before .before .before .before .before .before .match .keys1) (arrangementOf (onVertices (a .robots .now)) z) (a .j) (a .behind) (a .list .now))
+
+-- src/moves.rt:39:1
+same-length-4 : tie.Need-same-length-4
+same-length-4 c = search needs
+
+-- src/moves.rt:39:1
+same-length-5 : tie.Need-same-length-5
+same-length-5 c = search needs
+
+-- src/moves.rt:39:1
+same-length-6 : tie.Need-same-length-6
+same-length-6 c = search needs
+
+-- src/moves.rt:39:1
+returns-2 : tie.Need-returns-2
+returns-2 c =
+    let a = c .before .before .before .before .before .before .before .before .before .before .before .before .before .before .before .before .args in
+    let z = a .zone .now in
+    c .before .before .before .before .before .before .enter2 .ensures ∙ ap (λ (ms : List Move). madeAll (worldIn (a .robots .now) (a .vertices .now) (a .count) (a .out .now)) (across z ms)) (ring-enter _ (c .before .before .before .before .before .before .before .before .before .before .match .keys2) (arrangementOf (onVertices (a .robots .now)) z) (a .j) (a .behind) (a .list .now))
+
+-- src/moves.rt:39:1
+same-length-7 : tie.Need-same-length-7
+same-length-7 c = search needs
+
+-- src/moves.rt:39:1
+same-length-8 : tie.Need-same-length-8
+same-length-8 c = search needs
+
+-- src/moves.rt:39:1
+same-length-9 : tie.Need-same-length-9
+same-length-9 c = search needs
+
+-- src/moves.rt:39:1
 returns-3 : tie.Need-returns-3
 returns-3 c =
-    let a = c .before .before .before .before .before .before .before .before .args in
+    let a = c .before .before .before .before .before .before .before .before .before .before .before .before .before .before .before .before .args in
     let z = a .zone .now in
-    c .before .before .enter3 .ensures ∙ ap (λ (ms : List Move). madeAll (worldOf (a .run) (a .out .now)) (across z ms)) (hall-enter _ (c .before .before .before .before .match .rest .0 .1) (c .before .before .before .before .match .rest .1) (arrangementOf (stateOf (a .run .state)) z) (a .j) (a .behind) (a .list .now))
+    c .before .before .before .before .before .before .enter3 .ensures ∙ ap (λ (ms : List Move). madeAll (worldIn (a .robots .now) (a .vertices .now) (a .count) (a .out .now)) (across z ms)) (hall-enter _ (c .before .before .before .before .before .before .before .before .before .before .match .rest .0 .1) (c .before .before .before .before .before .before .before .before .before .before .match .rest .1) (arrangementOf (onVertices (a .robots .now)) z) (a .j) (a .behind) (a .list .now))
 
 pub enter-spec : {M : Type 1} → statement M
 enter-spec =
@@ -53,8 +92,14 @@ enter-spec =
     enter-requires-2
     enter-requires-3
     same-length
-    returns
     same-length-2
-    returns-2
     same-length-3
+    returns
+    same-length-4
+    same-length-5
+    same-length-6
+    returns-2
+    same-length-7
+    same-length-8
+    same-length-9
     returns-3)
