@@ -24,14 +24,12 @@ use Rattle.theory.specs.Bounds.{stepMost, resolved-few}
 use Rattle.wire.specs.Payload.{payload, held-length, held-word}
 use Rattle.wire.specs.Payload as wire
 use Rattle.wire.specs.Laid.{laidAll}
-use Rattle.motion.specs.World.{World, madeAll, made-append, count-is, buffer-is, buffer-length, mostMoves}
+use Rattle.motion.specs.World.{World, world, madeAll, made-append, count-is, buffer-is, buffer-length, mostMoves}
 use Rattle.resolve.specs.Fault.{faultOf}
 use Rattle.resolve.specs.Walk.{WalkOf, OverOf, after}
 use Rattle.theory.specs.Maps.Placing.{Placed}
 use Rattle.theory.specs.Maps.Consistent.{Consistent}
 use Rattle.theory.specs.Plans.Resolve.{start-tracks}
-use Rattle.motion.specs.World.{worldOf}
-use Rattle.motion.specs.declared.Run.{Run}
 use Rattle.resolve.specs.Endings.{offZone, off-some, off-none}
 use Rattle.resolve.specs.declared.PlanFault.{PlanFault}
 use Rattle.resolve.specs.declared.PlanFault.the-variants as plan
@@ -93,17 +91,17 @@ pub record ResolvedOr (m : Map) (pl : Placing) (p o₀ o : List ℕ) (r : Resolv
   pub long : length o ≡ length o₀
 
 -- what a walk comes to, or that it was given up
-pub record WalkedTo (m : Map) (k : ℕ) (p : List ℕ) (n : ℕ) (w₀ : World) (q : Walked) (o : List ℕ) : Type 0 where
-  pub whole : q .over ≡ false → WalkOf m k p n w₀ (q .fault) (q .next) (worldOf (q .run) o)
-  pub part : q .over ≡ true → OverOf m k p n w₀ (worldOf (q .run) o)
+pub record WalkedTo (m : Map) (k : ℕ) (p : List ℕ) (n : ℕ) (w₀ : World) (q : Walked) (w : World) : Type 0 where
+  pub whole : q .over ≡ false → WalkOf m k p n w₀ (q .fault) (q .next) w
+  pub part : q .over ≡ true → OverOf m k p n w₀ w
 
-module _ (m : Map) (k : ℕ) (p : List ℕ) (n : ℕ) (w₀ : World) (q : Walked) (o : List ℕ) where
+module _ (m : Map) (k : ℕ) (p : List ℕ) (n : ℕ) (w₀ : World) (q : Walked) (w : World) where
   -- a walk to its end or a refusal
-  pub walked-whole : q .over ≡ false → WalkOf m k p n w₀ (q .fault) (q .next) (worldOf (q .run) o) → WalkedTo m k p n w₀ q o
+  pub walked-whole : q .over ≡ false → WalkOf m k p n w₀ (q .fault) (q .next) w → WalkedTo m k p n w₀ q w
   walked-whole e x = record { whole = λ t. x; part = λ t. absurd (bools (sym t ∙ e)) }
 
   -- a walk that was given up
-  pub walked-part : q .over ≡ true → OverOf m k p n w₀ (worldOf (q .run) o) → WalkedTo m k p n w₀ q o
+  pub walked-part : q .over ≡ true → OverOf m k p n w₀ w → WalkedTo m k p n w₀ q w
   walked-part e x = record { whole = λ t. absurd (bools (sym e ∙ t)); part = λ t. x }
 
 -- what testing the goals and reaching them comes to, from the world w₀
@@ -303,8 +301,8 @@ module _ (m : Map) (g : meaning.State) (w₀ : World) (z zones : ℕ) (e : offZo
   finish-pass h = sym e ∙ off-none z zones h
 
   -- they are
-  pub finish-done : zones ≤ z → (q : Run) (o : List ℕ) → worldOf q o ≡ madeAll w₀ (endingsFrom (m .zones) (w₀ .state) g) → FinishOf m g w₀ (record { fault = plan.None; over = false; count = q .count }) o
-  finish-done h q o x = record {
+  pub finish-done : zones ≤ z → (s : meaning.State) (n : ℕ) (o : List ℕ) → world s n o ≡ madeAll w₀ (endingsFrom (m .zones) (w₀ .state) g) → FinishOf m g w₀ (record { fault = plan.None; over = false; count = n }) o
+  finish-done h s n o x = record {
     answer = sym (finish-pass h);
     reached = λ _. (_, x);
     long = ap (λ (t : World). length (t .buffer)) x ∙ buffer-length w₀ (endingsFrom (m .zones) (w₀ .state) g);

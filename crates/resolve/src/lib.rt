@@ -41,10 +41,10 @@ pub struct Resolved {
     pub count: usize,
 }
 
-// How far a walk came: why it stopped, whether that was since more moves were made than a list holds, the state and the count of moves that it reached, and the offset after the steps that passed.
+// How far a walk came: why it stopped, whether that was since more moves were made than a list holds, the count of moves, and the offset after the steps that passed.
 pub struct Walked {
     pub fault: PlanFault,
     pub over: bool,
-    pub run: motion::Run,
+    pub made: usize,
     pub next: usize,
 }

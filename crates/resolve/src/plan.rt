@@ -12,7 +12,6 @@ use crate::PlanFault;
 use crate::Resolved;
 use crate::ending::finish;
 use crate::walk::walk;
-use motion::Run;
 
 // Resolves the plan whose payload, of `len` bytes, stands in a checked file: the moves are laid into the buffer, after the two bytes of the count.
 pub fn resolve_plan<'a>(
@@ -46,7 +45,12 @@ pub fn resolve_plan<'a>(
     let count = wire::payload_word(file, 0);
     let s = motion::standing(starts, k);
     let g = motion::standing(goals, k);
-    let run = Run { state: s, count: 0 };
+    let mut robots = [255u8; 128];
+    let mut vertices = [255u8; 64];
+    let mut targets = [255u8; 128];
+    motion::robots_of(s, &mut robots);
+    motion::vertices_of(s, &mut vertices);
+    motion::robots_of(g, &mut targets);
     let w = walk(
         file,
         len,
@@ -60,17 +64,18 @@ pub fn resolve_plan<'a>(
         rows,
         n,
         k,
-        run,
+        &mut robots,
+        &mut vertices,
         out,
     );
     let fault = w.fault;
     let next = w.next;
-    let reached = w.run;
+    let made = w.made;
     if w.over {
         return Resolved {
             fault: PlanFault::None,
             over: true,
-            count: reached.count,
+            count: made,
         };
     }
     match fault {
@@ -90,5 +95,16 @@ pub fn resolve_plan<'a>(
             count: 0,
         };
     }
-    finish(reached, kind, first, size, listed, zones, g, out)
+    finish(
+        &mut robots,
+        &mut vertices,
+        made,
+        kind,
+        first,
+        size,
+        listed,
+        zones,
+        &targets,
+        out,
+    )
 }

@@ -9,8 +9,8 @@ ghost use Rattle.spec.specs.State.{arrangementOf, across};
 ghost use Rattle.spec.specs.ZoneKind.{canLeave};
 ghost use Rattle.theory.specs.Maps.Consistent.{Consistent};
 ghost use Rattle.wire.specs.Payload.{payload};
-ghost use Rattle.motion.specs.States.{stateOf};
-ghost use Rattle.motion.specs.World.{worldOf, madeAll};
+ghost use Rattle.motion.specs.Tables.{tabled};
+ghost use Rattle.motion.specs.World.{worldIn, madeAll};
 ghost use Rattle.motion.specs.Coupling.{Listed};
 ghost use Rattle.clique.specs.Entering.{Numbered};
 ghost use Rattle.zones.specs.Kinds.{leaveMoves, enterMoves};
@@ -18,13 +18,14 @@ ghost use Rattle.resolve.specs.Held.{heldPart};
 ghost use Rattle.resolve.specs.Tests.{Passes, stepMoves};
 ghost use Rattle.resolve.specs.Given.{Given, Stepping, HasVertex, kindAt, verticesAt};
 use crate::tests::copy_list;
-use motion::Run;
 use numbering::Robot;
 use numbering::Vertex;
 
 // The moves that bring robot r, which can leave there, to vertex u.
 fn leave_at<'a>(
-    run: Run,
+    robots: &mut [u8],
+    vertices: &mut [u8],
+    count: usize,
     kind: &'a [u8; 64],
     first: &'a [u8; 64],
     size: &'a [u8; 64],
@@ -34,21 +35,33 @@ fn leave_at<'a>(
     r: u8,
     u: u8,
     out: &mut [u8],
-) -> Run
+) -> usize
     requires { ⌜ HasVertex (now first) (now size) (now listed) (now zone) (now place) u ⌝ }
-    requires { ⌜ canLeave (kindAt (now kind) (now zone) u) (arrangementOf (stateOf (run .state)) (verticesAt (now first) (now size) (now listed) (now zone) u)) r (getD (now place) u 0) ≡ true ⌝ }
-    ensures { λ q. ⌜ worldOf q (now (out .exit)) ≡ madeAll (worldOf run (now (out .entry))) (across (verticesAt (now (first .entry)) (now (size .entry)) (now (listed .entry)) (now (zone .entry)) u) (leaveMoves (kindAt (now (kind .entry)) (now (zone .entry)) u) (arrangementOf (stateOf (run .state)) (verticesAt (now (first .entry)) (now (size .entry)) (now (listed .entry)) (now (zone .entry)) u)) r (getD (now (place .entry)) u 0))) ⌝ }
+    requires { ⌜ canLeave (kindAt (now kind) (now zone) u) (arrangementOf (tabled (now robots) (now vertices)) (verticesAt (now first) (now size) (now listed) (now zone) u)) r (getD (now place) u 0) ≡ true ⌝ }
+    requires { ⌜ length (now robots) ≡ 128 ⌝ }
+    ensures { λ q. ⌜ worldIn (now (robots .exit)) (now (vertices .exit)) q (now (out .exit)) ≡ madeAll (worldIn (now (robots .entry)) (now (vertices .entry)) count (now (out .entry))) (across (verticesAt (now (first .entry)) (now (size .entry)) (now (listed .entry)) (now (zone .entry)) u) (leaveMoves (kindAt (now (kind .entry)) (now (zone .entry)) u) (arrangementOf (tabled (now (robots .entry)) (now (vertices .entry))) (verticesAt (now (first .entry)) (now (size .entry)) (now (listed .entry)) (now (zone .entry)) u)) r (getD (now (place .entry)) u 0))) ⌝ }
 {
     let z = zone[u as usize] as usize;
     let a = first[z] as usize;
     let e = a + size[z] as usize;
     let j = place[u as usize] as usize;
-    zones::leave(kind[z], run, &listed[a..e], Robot(r), j, out)
+    zones::leave(
+        kind[z],
+        robots,
+        vertices,
+        count,
+        &listed[a..e],
+        Robot(r),
+        j,
+        out,
+    )
 }
 
 // The moves that make room at place j, with the follow list that is copied into the lent bytes.
 fn enter_in(
-    run: Run,
+    robots: &mut [u8],
+    vertices: &mut [u8],
+    count: usize,
     file: &[u8],
     from: usize,
     kind: u8,
@@ -57,19 +70,21 @@ fn enter_in(
     behind: u8,
     list: &mut [u8],
     out: &mut [u8],
-) -> Run
+) -> usize
     requires { ⌜ (length (now zone) ≤ 128) × (j < length (now zone)) × (length (now list) ≤ 128) × (from + length (now list) ≤ length (now file) / 512 * 504) ⌝ }
-    requires { ⌜ Listed 128 (now zone) ⌝ }
+    requires { ⌜ Listed (length (now robots)) (now zone) ⌝ }
     requires { ⌜ Numbered (heldPart (now file) (from + length (now list)) from (length (now list))) j ⌝ }
-    ensures { λ q. ⌜ worldOf q (now (out .exit)) ≡ madeAll (worldOf run (now (out .entry))) (across (now (zone .entry)) (enterMoves kind (arrangementOf (stateOf (run .state)) (now (zone .entry))) j behind (heldPart (now (file .entry)) (from + length (now (list .entry))) from (length (now (list .entry)))))) ⌝ }
+    ensures { λ q. ⌜ worldIn (now (robots .exit)) (now (vertices .exit)) q (now (out .exit)) ≡ madeAll (worldIn (now (robots .entry)) (now (vertices .entry)) count (now (out .entry))) (across (now (zone .entry)) (enterMoves kind (arrangementOf (tabled (now (robots .entry)) (now (vertices .entry))) (now (zone .entry))) j behind (heldPart (now (file .entry)) (from + length (now (list .entry))) from (length (now (list .entry)))))) ⌝ }
 {
     copy_list(file, from, list);
-    zones::enter(kind, run, zone, j, behind, list, out)
+    zones::enter(kind, robots, vertices, count, zone, j, behind, list, out)
 }
 
 // The moves that make room at vertex v, where the follow list has n bytes.
 fn enter_at<'a>(
-    run: Run,
+    robots: &mut [u8],
+    vertices: &mut [u8],
+    count: usize,
     file: &[u8],
     from: usize,
     n: usize,
@@ -82,11 +97,12 @@ fn enter_at<'a>(
     v: u8,
     behind: u8,
     out: &mut [u8],
-) -> Run
+) -> usize
     requires { ⌜ (n ≤ 128) × (from + n ≤ length (now file) / 512 * 504) ⌝ }
     requires { ⌜ HasVertex (now first) (now size) (now listed) (now zone) (now place) v ⌝ }
     requires { ⌜ Numbered (heldPart (now file) (from + n) from n) (getD (now place) v 0) ⌝ }
-    ensures { λ q. ⌜ worldOf q (now (out .exit)) ≡ madeAll (worldOf run (now (out .entry))) (across (verticesAt (now (first .entry)) (now (size .entry)) (now (listed .entry)) (now (zone .entry)) v) (enterMoves (kindAt (now (kind .entry)) (now (zone .entry)) v) (arrangementOf (stateOf (run .state)) (verticesAt (now (first .entry)) (now (size .entry)) (now (listed .entry)) (now (zone .entry)) v)) (getD (now (place .entry)) v 0) behind (heldPart (now (file .entry)) (from + n) from n))) ⌝ }
+    requires { ⌜ length (now robots) ≡ 128 ⌝ }
+    ensures { λ q. ⌜ worldIn (now (robots .exit)) (now (vertices .exit)) q (now (out .exit)) ≡ madeAll (worldIn (now (robots .entry)) (now (vertices .entry)) count (now (out .entry))) (across (verticesAt (now (first .entry)) (now (size .entry)) (now (listed .entry)) (now (zone .entry)) v) (enterMoves (kindAt (now (kind .entry)) (now (zone .entry)) v) (arrangementOf (tabled (now (robots .entry)) (now (vertices .entry))) (verticesAt (now (first .entry)) (now (size .entry)) (now (listed .entry)) (now (zone .entry)) v)) (getD (now (place .entry)) v 0) behind (heldPart (now (file .entry)) (from + n) from n))) ⌝ }
 {
     let z = zone[v as usize] as usize;
     let a = first[z] as usize;
@@ -94,7 +110,9 @@ fn enter_at<'a>(
     let j = place[v as usize] as usize;
     let mut list = [0u8; 128];
     enter_in(
-        run,
+        robots,
+        vertices,
+        count,
         file,
         from,
         kind[z],
@@ -108,7 +126,9 @@ fn enter_at<'a>(
 
 // The moves of the step at offset o, which passed its tests, with a follow list of n bytes.
 pub fn make_step<'a>(
-    run: Run,
+    robots: &mut [u8],
+    vertices: &mut [u8],
+    count: usize,
     file: &[u8],
     o: usize,
     n: usize,
@@ -119,17 +139,32 @@ pub fn make_step<'a>(
     zone: &'a [u8; 128],
     place: &'a [u8; 128],
     out: &mut [u8],
-) -> Run
-    requires { ⌜ Stepping (now file) o n (now kind) (now first) (now size) (now listed) (now zone) (now place) (stateOf (run .state)) ⌝ }
-    ensures { λ q. ⌜ ((m : Map) (vertices k len : ℕ) (rows : List (List ℕ)) → Given m vertices k (now (kind .entry)) (now (first .entry)) (now (size .entry)) (now (listed .entry)) (now (zone .entry)) (now (place .entry)) rows → Consistent m k (stateOf (run .state)) → len ≤ length (now (file .entry)) / 512 * 504 → Passes m k (take len (payload (now (file .entry)))) o (stateOf (run .state)) n → worldOf q (now (out .exit)) ≡ madeAll (worldOf run (now (out .entry))) (stepMoves m (take len (payload (now (file .entry)))) o n (stateOf (run .state)))) ⌝ }
+) -> usize
+    requires { ⌜ Stepping (now file) o n (now kind) (now first) (now size) (now listed) (now zone) (now place) (tabled (now robots) (now vertices)) ⌝ }
+    ensures { λ q. ⌜ ((m : Map) (points k len : ℕ) (rows : List (List ℕ)) → Given m points k (now (kind .entry)) (now (first .entry)) (now (size .entry)) (now (listed .entry)) (now (zone .entry)) (now (place .entry)) rows → Consistent m k (tabled (now (robots .entry)) (now (vertices .entry))) → len ≤ length (now (file .entry)) / 512 * 504 → Passes m k (take len (payload (now (file .entry)))) o (tabled (now (robots .entry)) (now (vertices .entry))) n → worldIn (now (robots .exit)) (now (vertices .exit)) q (now (out .exit)) ≡ madeAll (worldIn (now (robots .entry)) (now (vertices .entry)) count (now (out .entry))) (stepMoves m (take len (payload (now (file .entry)))) o n (tabled (now (robots .entry)) (now (vertices .entry))))) ⌝ }
 {
     let r = wire::payload_byte(file, o);
     let u = wire::payload_byte(file, o + 1);
     let v = wire::payload_byte(file, o + 2);
     let behind = wire::payload_byte(file, o + 3);
     let from = o + 4;
-    let left = leave_at(run, kind, first, size, listed, zone, place, r, u, out);
+    let left = leave_at(
+        robots,
+        vertices,
+        count,
+        kind,
+        first,
+        size,
+        listed,
+        zone,
+        place,
+        r,
+        u,
+        out,
+    );
     let room = enter_at(
+        robots,
+        vertices,
         left,
         file,
         from,
@@ -144,5 +179,5 @@ pub fn make_step<'a>(
         behind,
         out,
     );
-    motion::make(room, Robot(r), Vertex(u), Vertex(v), out)
+    motion::make(robots, vertices, room, Robot(r), Vertex(u), Vertex(v), out)
 }

@@ -8,12 +8,11 @@ ghost use Rattle.spec.specs.State.{arrangementOf};
 ghost use Rattle.spec.specs.ZoneKind.{canLeave, canEnter};
 ghost use Rattle.theory.specs.Zones.Crossing.{extraOf};
 ghost use Rattle.wire.specs.Payload.{payload};
-ghost use Rattle.motion.specs.States.{stateOf};
+ghost use Rattle.motion.specs.Tables.{onVertices};
 ghost use Rattle.resolve.specs.Held.{heldPart};
 ghost use Rattle.resolve.specs.Tests.{testOf, numbered, crosses, entryTests, stepTests};
 ghost use Rattle.resolve.specs.Given.{Given, Shown, HasVertex, kindAt, verticesAt};
 use crate::StepTest;
-use motion::State;
 use numbering::Robot;
 use numbering::Vertex;
 
@@ -55,18 +54,18 @@ fn can_leave_at<'a>(
     listed: &'a [u8],
     zone: &'a [u8; 128],
     place: &'a [u8; 128],
-    s: State,
+    robots: &[u8],
     r: u8,
     u: u8,
 ) -> bool
     requires { ⌜ HasVertex (now first) (now size) (now listed) (now zone) (now place) u ⌝ }
-    ensures { λ b. ⌜ b ≡ canLeave (kindAt (now (kind .entry)) (now (zone .entry)) u) (arrangementOf (stateOf s) (verticesAt (now (first .entry)) (now (size .entry)) (now (listed .entry)) (now (zone .entry)) u)) r (getD (now (place .entry)) u 0) ⌝ }
+    ensures { λ b. ⌜ b ≡ canLeave (kindAt (now (kind .entry)) (now (zone .entry)) u) (arrangementOf (onVertices (now (robots .entry))) (verticesAt (now (first .entry)) (now (size .entry)) (now (listed .entry)) (now (zone .entry)) u)) r (getD (now (place .entry)) u 0) ⌝ }
 {
     let z = zone[u as usize] as usize;
     let a = first[z] as usize;
     let e = a + size[z] as usize;
     let j = place[u as usize] as usize;
-    zones::can_leave(kind[z], s, &listed[a..e], Robot(r), j)
+    zones::can_leave(kind[z], robots, &listed[a..e], Robot(r), j)
 }
 
 // The bytes of a follow list are copied from the payload in the file.
@@ -86,7 +85,7 @@ fn can_enter_in(
     file: &[u8],
     from: usize,
     kind: u8,
-    s: State,
+    robots: &[u8],
     zone: &[u8],
     r: u8,
     j: usize,
@@ -94,17 +93,17 @@ fn can_enter_in(
     list: &mut [u8],
 ) -> bool
     requires { ⌜ (length (now zone) ≤ 128) × (length (now list) ≤ 128) × (from + length (now list) ≤ length (now file) / 512 * 504) ⌝ }
-    ensures { λ b. ⌜ ((len : ℕ) → len ≤ length (now (file .entry)) / 512 * 504 → from + length (now (list .entry)) ≤ len → b ≡ canEnter kind (arrangementOf (stateOf s) (now (zone .entry))) r j behind (heldPart (now (file .entry)) len from (length (now (list .entry))))) ⌝ }
+    ensures { λ b. ⌜ ((len : ℕ) → len ≤ length (now (file .entry)) / 512 * 504 → from + length (now (list .entry)) ≤ len → b ≡ canEnter kind (arrangementOf (onVertices (now (robots .entry))) (now (zone .entry))) r j behind (heldPart (now (file .entry)) len from (length (now (list .entry))))) ⌝ }
 {
     copy_list(file, from, list);
-    zones::can_enter(kind, s, zone, Robot(r), j, behind, list)
+    zones::can_enter(kind, robots, zone, Robot(r), j, behind, list)
 }
 
 // How many bytes the follow list of a step into a zone has.
-fn list_length(kind: u8, s: State, zone: &[u8]) -> usize
-    ensures { λ e. ⌜ e ≡ extraOf kind (arrangementOf (stateOf s) (now (zone .entry))) ⌝ }
+fn list_length(kind: u8, robots: &[u8], zone: &[u8]) -> usize
+    ensures { λ e. ⌜ e ≡ extraOf kind (arrangementOf (onVertices (now (robots .entry))) (now (zone .entry))) ⌝ }
 {
-    if zones::fills(kind, s, zone) {
+    if zones::fills(kind, robots, zone) {
         return zone.len();
     }
     0
@@ -116,24 +115,34 @@ fn test_entry(
     len: usize,
     o: usize,
     kind: u8,
-    s: State,
+    robots: &[u8],
     zone: &[u8],
     r: u8,
     j: usize,
     behind: u8,
 ) -> StepTest
     requires { ⌜ (len ≤ length (now file) / 512 * 504) × (o + 4 ≤ len) × (length (now zone) ≤ 128) ⌝ }
-    ensures { λ t. ⌜ ((i : ℕ) → testOf i t ≡ entryTests kind (arrangementOf (stateOf s) (now (zone .entry))) (take len (payload (now (file .entry)))) i o r j behind) ⌝ }
+    ensures { λ t. ⌜ ((i : ℕ) → testOf i t ≡ entryTests kind (arrangementOf (onVertices (now (robots .entry))) (now (zone .entry))) (take len (payload (now (file .entry)))) i o r j behind) ⌝ }
 {
-    if zones::is_full(s, zone) {
+    if zones::is_full(robots, zone) {
         return StepTest::Enter;
     }
-    let e = list_length(kind, s, zone);
+    let e = list_length(kind, robots, zone);
     if len - o - 4 < e {
         return StepTest::Short;
     }
     let mut list = [0u8; 128];
-    if can_enter_in(file, o + 4, kind, s, zone, r, j, behind, &mut list[..e]) {
+    if can_enter_in(
+        file,
+        o + 4,
+        kind,
+        robots,
+        zone,
+        r,
+        j,
+        behind,
+        &mut list[..e],
+    ) {
         return StepTest::Passed(e);
     }
     StepTest::Enter
@@ -150,20 +159,20 @@ fn test_entry_at<'a>(
     listed: &'a [u8],
     zone: &'a [u8; 128],
     place: &'a [u8; 128],
-    s: State,
+    robots: &[u8],
     r: u8,
     v: u8,
     behind: u8,
 ) -> StepTest
     requires { ⌜ (len ≤ length (now file) / 512 * 504) × (o + 4 ≤ len) ⌝ }
     requires { ⌜ HasVertex (now first) (now size) (now listed) (now zone) (now place) v ⌝ }
-    ensures { λ t. ⌜ ((i : ℕ) → testOf i t ≡ entryTests (kindAt (now (kind .entry)) (now (zone .entry)) v) (arrangementOf (stateOf s) (verticesAt (now (first .entry)) (now (size .entry)) (now (listed .entry)) (now (zone .entry)) v)) (take len (payload (now (file .entry)))) i o r (getD (now (place .entry)) v 0) behind) ⌝ }
+    ensures { λ t. ⌜ ((i : ℕ) → testOf i t ≡ entryTests (kindAt (now (kind .entry)) (now (zone .entry)) v) (arrangementOf (onVertices (now (robots .entry))) (verticesAt (now (first .entry)) (now (size .entry)) (now (listed .entry)) (now (zone .entry)) v)) (take len (payload (now (file .entry)))) i o r (getD (now (place .entry)) v 0) behind) ⌝ }
 {
     let z = zone[v as usize] as usize;
     let a = first[z] as usize;
     let e = a + size[z] as usize;
     let j = place[v as usize] as usize;
-    test_entry(file, len, o, kind[z], s, &listed[a..e], r, j, behind)
+    test_entry(file, len, o, kind[z], robots, &listed[a..e], r, j, behind)
 }
 
 // The tests of the step at offset o of the payload, for k robots on a map of n vertices in state s.
@@ -180,11 +189,11 @@ pub fn test_step<'a>(
     rows: &[[u64; 2]; 128],
     n: usize,
     k: usize,
-    s: State,
+    robots: &[u8],
 ) -> StepTest
     requires { ⌜ (len ≤ length (now file) / 512 * 504) × (o ≤ len) ⌝ }
     requires { ⌜ Shown n k (now kind) (now first) (now size) (now listed) (now zone) (now place) (now rows) ⌝ }
-    ensures { λ t. ⌜ ((m : Map) → Given m n k (now (kind .entry)) (now (first .entry)) (now (size .entry)) (now (listed .entry)) (now (zone .entry)) (now (place .entry)) (now (rows .entry)) → (i : ℕ) → testOf i t ≡ stepTests m k (take len (payload (now (file .entry)))) i o (stateOf s)) ⌝ }
+    ensures { λ t. ⌜ ((m : Map) → Given m n k (now (kind .entry)) (now (first .entry)) (now (size .entry)) (now (listed .entry)) (now (zone .entry)) (now (place .entry)) (now (rows .entry)) → (i : ℕ) → testOf i t ≡ stepTests m k (take len (payload (now (file .entry)))) i o (onVertices (now (robots .entry)))) ⌝ }
 {
     if len - o < 4 {
         return StepTest::Short;
@@ -199,7 +208,7 @@ pub fn test_step<'a>(
     if !is_crossing(zone, rows, u, v) {
         return StepTest::Edge;
     }
-    if !can_leave_at(kind, first, size, listed, zone, place, s, r, u) {
+    if !can_leave_at(kind, first, size, listed, zone, place, robots, r, u) {
         return StepTest::Leave;
     }
     test_entry_at(
@@ -212,7 +221,7 @@ pub fn test_step<'a>(
         listed,
         zone,
         place,
-        s,
+        robots,
         r,
         v,
         behind,

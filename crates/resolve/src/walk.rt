@@ -5,8 +5,8 @@ ghost use lib.ListN.{length, take};
 ghost use Rattle.spec.specs.Layout.{Map};
 ghost use Rattle.theory.specs.Maps.Consistent.{Consistent};
 ghost use Rattle.wire.specs.Payload.{payload};
-ghost use Rattle.motion.specs.States.{stateOf};
-ghost use Rattle.motion.specs.World.{worldOf};
+ghost use Rattle.motion.specs.Tables.{tabled};
+ghost use Rattle.motion.specs.World.{worldIn};
 ghost use Rattle.resolve.specs.Given.{Given, Started};
 ghost use Rattle.resolve.specs.Whole.{WalkedTo};
 ghost use Rattle.resolve.specs.Steps.{refusalOf};
@@ -15,7 +15,6 @@ use crate::StepTest;
 use crate::Walked;
 use crate::step::make_step;
 use crate::tests::test_step;
-use motion::Run;
 
 // The refusal of step i, which did not pass.
 pub fn refusal_of(i: usize, t: StepTest) -> PlanFault
@@ -45,27 +44,26 @@ pub fn walk<'a>(
     rows: &[[u64; 2]; 128],
     n: usize,
     k: usize,
-    run: Run,
+    robots: &mut [u8],
+    vertices: &mut [u8],
     out: &mut [u8],
 ) -> Walked
     requires { ⌜ (len ≤ length (now file) / 512 * 504) × (2 ≤ len) × (count < 65536) ⌝ }
-    requires { ⌜ Started n k (now kind) (now first) (now size) (now listed) (now zone) (now place) (now rows) (stateOf (run .state)) ⌝ }
-    ensures { λ q. ⌜ ((m : Map) → Given m n k (now (kind .entry)) (now (first .entry)) (now (size .entry)) (now (listed .entry)) (now (zone .entry)) (now (place .entry)) (now (rows .entry)) → Consistent m k (stateOf (run .state)) → WalkedTo m k (take len (payload (now (file .entry)))) count (worldOf run (now (out .entry))) q (now (out .exit))) ⌝ }
+    requires { ⌜ Started n k (now kind) (now first) (now size) (now listed) (now zone) (now place) (now rows) (tabled (now robots) (now vertices)) ⌝ }
+    ensures { λ q. ⌜ ((m : Map) → Given m n k (now (kind .entry)) (now (first .entry)) (now (size .entry)) (now (listed .entry)) (now (zone .entry)) (now (place .entry)) (now (rows .entry)) → Consistent m k (tabled (now (robots .entry)) (now (vertices .entry))) → WalkedTo m k (take len (payload (now (file .entry)))) count (worldIn (now (robots .entry)) (now (vertices .entry)) 0 (now (out .entry))) q (worldIn (now (robots .exit)) (now (vertices .exit)) (q .made) (now (out .exit)))) ⌝ }
 {
-    let mut run = run;
+    let mut made: usize = 0;
     let mut o: usize = 2;
     let mut i: usize = 0;
     while i < count {
-        let made = run.count;
         if 21503 < made {
             return Walked {
                 fault: PlanFault::None,
                 over: true,
-                run: run,
+                made: made,
                 next: o,
             };
         }
-        let s = run.state;
         let t = test_step(
             file,
             len,
@@ -79,12 +77,26 @@ pub fn walk<'a>(
             rows,
             n,
             k,
-            s,
+            robots,
         );
         match t {
             StepTest::Passed(e) => {
                 let next = o + 4 + e;
-                run = make_step(run, file, o, e, kind, first, size, listed, zone, place, out);
+                made = make_step(
+                    robots,
+                    vertices,
+                    made,
+                    file,
+                    o,
+                    e,
+                    kind,
+                    first,
+                    size,
+                    listed,
+                    zone,
+                    place,
+                    out,
+                );
                 o = next;
                 i += 1;
             }
@@ -92,7 +104,7 @@ pub fn walk<'a>(
                 return Walked {
                     fault: refusal_of(i, t),
                     over: false,
-                    run: run,
+                    made: made,
                     next: o,
                 };
             }
@@ -101,7 +113,7 @@ pub fn walk<'a>(
     Walked {
         fault: PlanFault::None,
         over: false,
-        run: run,
+        made: made,
         next: o,
     }
 }

@@ -232,7 +232,7 @@ pub end-both : (w u : World) (t : State) (vs os : List ℕ) (r j : ℕ) → List
     → seek (suc r) (arrangementOf (onVertices (w .state .robots)) vs) < length vs → os ≡ opened j vs
     → u ≡ madeAll w (across vs (pushTo (arrangementOf (onVertices (w .state .robots)) vs) r j))
     → madeAll u (across os (hallEnd (arrangementOf (onVertices (u .state .robots)) os) (arrangementOf t os)))
-      ≡ madeAll w (across vs (ringEnd (arrangementOf (onVertices (w .state .robots)) vs) (arrangementOf t vs)))
+    ≡ madeAll w (across vs (ringEnd (arrangementOf (onVertices (w .state .robots)) vs) (arrangementOf t vs)))
 unfolding ringEndAt pushTo arrangementOf
 end-both w u t vs os r j M e h d i o k =
     let a : Arrangement = arrangementOf (w .state) vs in

@@ -142,7 +142,7 @@ inside-pushes (suc n) s vs p L h =
 pub pushes-step : (w u : World) (vs : List ℕ) (p q n : ℕ) → Listed (length (w .state .robots)) vs → p < length vs → 0 < n
     → q ≡ nextPlace (length vs) p → u ≡ madeAll w (across vs (push (arrangementOf (onVertices (w .state .robots)) vs) p))
     → madeAll u (across vs (pushes (n - 1) (arrangementOf (onVertices (u .state .robots)) vs) q))
-      ≡ madeAll w (across vs (pushes n (arrangementOf (onVertices (w .state .robots)) vs) p))
+    ≡ madeAll w (across vs (pushes n (arrangementOf (onVertices (w .state .robots)) vs) p))
 unfolding arrangementOf
 pushes-step w u vs p q n M h z d k =
     made-both w u vs (push (arrangementOf (w .state) vs) p) (pushes (n - 1) (arrangementOf (u .state) vs) q) k

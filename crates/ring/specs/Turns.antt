@@ -171,7 +171,7 @@ turn-more (suc n) a b j named p h e q d = go (entryOpen a j named) refl
 pub turn-step : (w u : World) (vs : List ℕ) (j named p n : ℕ) → Listed (length (w .state .robots)) vs → p < length vs → 0 < n
     → p ≡ turnAt (arrangementOf (onVertices (w .state .robots)) vs) j named → u ≡ madeAll w (across vs (push (arrangementOf (onVertices (w .state .robots)) vs) p))
     → madeAll u (across vs (turnFor (n - 1) (arrangementOf (onVertices (u .state .robots)) vs) j named))
-      ≡ madeAll w (across vs (turnFor n (arrangementOf (onVertices (w .state .robots)) vs) j named))
+    ≡ madeAll w (across vs (turnFor n (arrangementOf (onVertices (w .state .robots)) vs) j named))
 unfolding arrangementOf
 turn-step w u vs j named p n M h z d k =
     made-both w u vs (push (arrangementOf (w .state) vs) p) (turnFor (n - 1) (arrangementOf (u .state) vs) j named) k

@@ -3,82 +3,112 @@ use Rattle.resolve.specs.Given.{part, kindAt, verticesAt}
 use lib.ListN.{replicate}
 use Rattle.clique.specs.Comparing.{cells-length}
 use Rattle.zones.specs.Kinds.{enterMoves}
-use Rattle.motion.specs.World.{worldOf, madeAll}
+use Rattle.motion.specs.World.{worldIn, madeAll}
 use Rattle.spec.specs.State.{across}
 use Rattle.spec.specs.State.{arrangementOf}
-use Rattle.motion.specs.States.{stateOf}
+use Rattle.motion.specs.Tables.{tabled, onVertices}
 use lib.ListN.{length, getD, take}
 use native.Mathlib.Omega.{arith}
 use Prim.Native.Nat.{ℕ, _+_, _-_}
 use mathlib.Core.List.{List}
 use mathlib.Core.Path.{_≡_, sym, ap, _∙_}
 use borrow.Author.Needs.{needs}
+use borrow.Author.Needs.{needs}
 use Rattle.resolve.proofs.step.enter_at.Statement.{statement}
 use Rattle.resolve.proofs.step.enter_at.Tie as tie
+use Rattle.resolve.proofs.step.enter_at.Reads as reads
+use Rattle.resolve.proofs.step.enter_at.Lts as lts
+use Rattle.resolve.proofs.step.enter_in.Reads as enter-in-reads
 
+-- src/step.rt:107:13
 element-copy-out-z : tie.Need-element-copy-out-z
 element-copy-out-z c = search needs
 
+-- src/step.rt:107:13
 cast-z : tie.Need-cast-z
 cast-z c = search needs
 
+-- src/step.rt:108:13
 element-copy-out-a : tie.Need-element-copy-out-a
 element-copy-out-a c = search needs
 
+-- src/step.rt:108:13
 cast-a : tie.Need-cast-a
 cast-a c = search needs
 
+-- src/step.rt:109:17
 element-copy-out-e : tie.Need-element-copy-out-e
 element-copy-out-e c = search needs
 
+-- src/step.rt:109:17
 cast-e : tie.Need-cast-e
 cast-e c = search needs
 
+-- src/step.rt:109:13
 add-e : tie.Need-add-e
 add-e c = search needs
 
+-- src/step.rt:110:13
 element-copy-out-j : tie.Need-element-copy-out-j
 element-copy-out-j c = search needs
 
+-- src/step.rt:110:13
 cast-j : tie.Need-cast-j
 cast-j c = search needs
 
+-- src/step.rt:118:9
 element-copy-out-enter-in : tie.Need-element-copy-out-enter-in
 element-copy-out-enter-in c = search needs
 
+-- src/step.rt:119:9
 sub-enter-in : tie.Need-sub-enter-in
 sub-enter-in c = search needs
 
+-- src/step.rt:119:9
 part-enter-in-start : tie.Need-part-enter-in-start
 part-enter-in-start c = search needs
 
+-- src/step.rt:119:9
 part-enter-in-end : tie.Need-part-enter-in-end
 part-enter-in-end c = search needs
 
+-- src/step.rt:122:9
 array-borrow-prefix-list : tie.Need-array-borrow-prefix-list
 array-borrow-prefix-list c = search needs
 
+-- src/step.rt:122:9
 slice-aggregate-enter-in : tie.Need-slice-aggregate-enter-in
-slice-aggregate-enter-in c = sym (cells-length (c .before .before .before .before .before .before .before .before .before .before .args .n) (c .before .before .before .before .before .before .before .before .before .before .pre .0 .0))
+slice-aggregate-enter-in c = sym (cells-length (c .before .before .before .before .before .before .before .before .before .before .before .before .before .before .args .n) (c .before .before .before .before .before .before .before .before .before .before .before .before .before .before .pre .0 .0))
 
+-- src/step.rt:112:5
 enter-in-requires : tie.Need-enter-in-requires
 enter-in-requires c κs =
-    let a = c .before .before .before .before .before .before .before .before .before .before .before .args in
-    let z : ℕ = getD (a .zone .now) (a .v) 0 in
-    let x : length {A = ℕ} (take (a .n) (replicate 128 0)) ≡ a .n = cells-length (a .n) (c .before .before .before .before .before .before .before .before .before .before .before .pre .0 .0) in
-    ((rw (part (getD (a .first .now) z 0) (getD (a .size .now) z 0) (a .listed .now)) (c .before .before .before .before .before .before .before .before .before .before .before .pre .1 .0 .here .long), rw (part (getD (a .first .now) z 0) (getD (a .size .now) z 0) (a .listed .now)) (c .before .before .before .before .before .before .before .before .before .before .before .pre .1 .0 .inside), omega (arith, x, c .before .before .before .before .before .before .before .before .before .before .before .pre .0), omega (arith, x, c .before .before .before .before .before .before .before .before .before .before .before .pre .0)), (rw (part (getD (a .first .now) z 0) (getD (a .size .now) z 0) (a .listed .now)) (c .before .before .before .before .before .before .before .before .before .before .before .pre .1 .0 .here .once), rw x (c .before .before .before .before .before .before .before .before .before .before .before .pre .1 .1)))
-
-same-length : tie.Need-same-length
-same-length c = search needs
-
-returns : tie.Need-returns
-returns c =
     let a = c .before .before .before .before .before .before .before .before .before .before .before .before .before .before .before .args in
     let z : ℕ = getD (a .zone .now) (a .v) 0 in
     let x : length {A = ℕ} (take (a .n) (replicate 128 0)) ≡ a .n = cells-length (a .n) (c .before .before .before .before .before .before .before .before .before .before .before .before .before .before .before .pre .0 .0) in
-    c .before .before .before .enter-in .ensures
-    ∙ ap (λ (vs : List ℕ). madeAll (worldOf (a .run) (a .out .now)) (across vs (enterMoves (kindAt (a .kind .now) (a .zone .now) (a .v)) (arrangementOf (stateOf (a .run .state)) vs) (getD (a .place .now) (a .v) 0) (a .behind) (heldPart (a .file .now) (a .from + length {A = ℕ} (take (a .n) (replicate 128 0))) (a .from) (length {A = ℕ} (take (a .n) (replicate 128 0))))))) (part (getD (a .first .now) z 0) (getD (a .size .now) z 0) (a .listed .now))
-    ∙ ap (λ (y : ℕ). madeAll (worldOf (a .run) (a .out .now)) (across (verticesAt (a .first .now) (a .size .now) (a .listed .now) (a .zone .now) (a .v)) (enterMoves (kindAt (a .kind .now) (a .zone .now) (a .v)) (arrangementOf (stateOf (a .run .state)) (verticesAt (a .first .now) (a .size .now) (a .listed .now) (a .zone .now) (a .v))) (getD (a .place .now) (a .v) 0) (a .behind) (heldPart (a .file .now) (a .from + y) (a .from) y)))) x
+    ((rw (part (getD (a .first .now) z 0) (getD (a .size .now) z 0) (a .listed .now)) (c .before .before .before .before .before .before .before .before .before .before .before .before .before .before .before .pre .1 .0 .here .long), rw (part (getD (a .first .now) z 0) (getD (a .size .now) z 0) (a .listed .now)) (c .before .before .before .before .before .before .before .before .before .before .before .before .before .before .before .pre .1 .0 .inside), omega (arith, x, c .before .before .before .before .before .before .before .before .before .before .before .before .before .before .before .pre .0), omega (arith, x, c .before .before .before .before .before .before .before .before .before .before .before .before .before .before .before .pre .0)), (rw (part (getD (a .first .now) z 0) (getD (a .size .now) z 0) (a .listed .now), c .before .before .before .before .before .before .before .before .before .before .before .before .before .before .before .pre .1 .1 .1) (c .before .before .before .before .before .before .before .before .before .before .before .before .before .before .before .pre .1 .0 .here .once), rw x (c .before .before .before .before .before .before .before .before .before .before .before .before .before .before .before .pre .1 .1 .0)))
+
+-- src/step.rt:84:1
+same-length : tie.Need-same-length
+same-length c = search needs
+
+-- src/step.rt:84:1
+same-length-2 : tie.Need-same-length-2
+same-length-2 c = search needs
+
+-- src/step.rt:84:1
+same-length-3 : tie.Need-same-length-3
+same-length-3 c = search needs
+
+-- src/step.rt:84:1
+returns : tie.Need-returns
+returns c =
+    let a = c .before .before .before .before .before .before .before .before .before .before .before .before .before .before .before .before .before .before .before .before .before .before .before .args in
+    let z : ℕ = getD (a .zone .now) (a .v) 0 in
+    let x : length {A = ℕ} (take (a .n) (replicate 128 0)) ≡ a .n = cells-length (a .n) (c .before .before .before .before .before .before .before .before .before .before .before .before .before .before .before .before .before .before .before .before .before .before .before .pre .0 .0) in
+    c .before .before .before .before .before .before .before .enter-in .ensures
+    ∙ ap (λ (vs : List ℕ). madeAll (worldIn (a .robots .now) (a .vertices .now) (a .count) (a .out .now)) (across vs (enterMoves (kindAt (a .kind .now) (a .zone .now) (a .v)) (arrangementOf (tabled (a .robots .now) (a .vertices .now)) vs) (getD (a .place .now) (a .v) 0) (a .behind) (heldPart (a .file .now) (a .from + length {A = ℕ} (take (a .n) (replicate 128 0))) (a .from) (length {A = ℕ} (take (a .n) (replicate 128 0))))))) (part (getD (a .first .now) z 0) (getD (a .size .now) z 0) (a .listed .now))
+    ∙ ap (λ (y : ℕ). madeAll (worldIn (a .robots .now) (a .vertices .now) (a .count) (a .out .now)) (across (verticesAt (a .first .now) (a .size .now) (a .listed .now) (a .zone .now) (a .v)) (enterMoves (kindAt (a .kind .now) (a .zone .now) (a .v)) (arrangementOf (tabled (a .robots .now) (a .vertices .now)) (verticesAt (a .first .now) (a .size .now) (a .listed .now) (a .zone .now) (a .v))) (getD (a .place .now) (a .v) 0) (a .behind) (heldPart (a .file .now) (a .from + y) (a .from) y)))) x
 
 pub enter-at-spec : {M : Type 1} → statement M
 enter-at-spec =
@@ -101,4 +131,6 @@ enter-at-spec =
     slice-aggregate-enter-in
     enter-in-requires
     same-length
+    same-length-2
+    same-length-3
     returns)

@@ -1,71 +1,101 @@
 use Rattle.resolve.specs.Given.{part, kindAt}
 use Rattle.zones.specs.Kinds.{leaveMoves}
-use Rattle.motion.specs.World.{worldOf, madeAll}
+use Rattle.motion.specs.World.{worldIn, madeAll}
 use Rattle.spec.specs.State.{across}
 use Rattle.spec.specs.State.{arrangementOf}
-use Rattle.motion.specs.States.{stateOf}
+use Rattle.motion.specs.Tables.{tabled, onVertices}
 use lib.ListN.{getD}
 use Prim.Native.Nat.{ℕ, _-_}
 use mathlib.Core.List.{List}
 use mathlib.Core.Path.{ap, _∙_}
 use borrow.Author.Needs.{needs}
+use borrow.Author.Needs.{needs}
 use Rattle.resolve.proofs.step.leave_at.Statement.{statement}
 use Rattle.resolve.proofs.step.leave_at.Tie as tie
+use Rattle.resolve.proofs.step.leave_at.Reads as reads
+use Rattle.resolve.proofs.step.leave_at.Lts as lts
+use Rattle.zones.proofs.leave.Reads as leave-reads
 
+-- src/step.rt:44:13
 element-copy-out-z : tie.Need-element-copy-out-z
 element-copy-out-z c = search needs
 
+-- src/step.rt:44:13
 cast-z : tie.Need-cast-z
 cast-z c = search needs
 
+-- src/step.rt:45:13
 element-copy-out-a : tie.Need-element-copy-out-a
 element-copy-out-a c = search needs
 
+-- src/step.rt:45:13
 cast-a : tie.Need-cast-a
 cast-a c = search needs
 
+-- src/step.rt:46:17
 element-copy-out-e : tie.Need-element-copy-out-e
 element-copy-out-e c = search needs
 
+-- src/step.rt:46:17
 cast-e : tie.Need-cast-e
 cast-e c = search needs
 
+-- src/step.rt:46:13
 add-e : tie.Need-add-e
 add-e c = search needs
 
+-- src/step.rt:47:13
 element-copy-out-j : tie.Need-element-copy-out-j
 element-copy-out-j c = search needs
 
+-- src/step.rt:47:13
 cast-j : tie.Need-cast-j
 cast-j c = search needs
 
+-- src/step.rt:49:9
 element-copy-out-leave : tie.Need-element-copy-out-leave
 element-copy-out-leave c = search needs
 
+-- src/step.rt:53:9
 sub-leave : tie.Need-sub-leave
 sub-leave c = search needs
 
+-- src/step.rt:53:9
 part-leave-start : tie.Need-part-leave-start
 part-leave-start c = search needs
 
+-- src/step.rt:53:9
 part-leave-end : tie.Need-part-leave-end
 part-leave-end c = search needs
 
+-- src/step.rt:48:5
 leave-requires : tie.Need-leave-requires
+unfolding arrangementOf
 leave-requires c κs =
-    let a = c .before .before .before .before .before .before .before .before .before .args in
+    let a = c .before .before .before .before .before .before .before .before .before .before .before .before .before .args in
     let z : ℕ = getD (a .zone .now) (a .u) 0 in
-    ((rw (part (getD (a .first .now) z 0) (getD (a .size .now) z 0) (a .listed .now)) (c .before .before .before .before .before .before .before .before .before .pre .0 .here .long), rw (part (getD (a .first .now) z 0) (getD (a .size .now) z 0) (a .listed .now)) (c .before .before .before .before .before .before .before .before .before .pre .0 .inside)), (rw (part (getD (a .first .now) z 0) (getD (a .size .now) z 0) (a .listed .now)) (c .before .before .before .before .before .before .before .before .before .pre .0 .here .once), rw (part (getD (a .first .now) z 0) (getD (a .size .now) z 0) (a .listed .now)) (c .before .before .before .before .before .before .before .before .before .pre .1)))
+    ((rw (part (getD (a .first .now) z 0) (getD (a .size .now) z 0) (a .listed .now)) (c .before .before .before .before .before .before .before .before .before .before .before .before .before .pre .0 .here .long), rw (part (getD (a .first .now) z 0) (getD (a .size .now) z 0) (a .listed .now)) (c .before .before .before .before .before .before .before .before .before .before .before .before .before .pre .0 .inside)), (rw (part (getD (a .first .now) z 0) (getD (a .size .now) z 0) (a .listed .now), c .before .before .before .before .before .before .before .before .before .before .before .before .before .pre .1 .1) (c .before .before .before .before .before .before .before .before .before .before .before .before .before .pre .0 .here .once), rw (part (getD (a .first .now) z 0) (getD (a .size .now) z 0) (a .listed .now)) (c .before .before .before .before .before .before .before .before .before .before .before .before .before .pre .1 .0)))
 
+-- src/step.rt:25:1
 same-length : tie.Need-same-length
 same-length c = search needs
 
+-- src/step.rt:25:1
+same-length-2 : tie.Need-same-length-2
+same-length-2 c = search needs
+
+-- src/step.rt:25:1
+same-length-3 : tie.Need-same-length-3
+same-length-3 c = search needs
+
+-- src/step.rt:25:1
 returns : tie.Need-returns
+unfolding arrangementOf
 returns c =
-    let a = c .before .before .before .before .before .before .before .before .before .before .before .before .args in
+    let a = c .before .before .before .before .before .before .before .before .before .before .before .before .before .before .before .before .before .before .before .before .args in
     let z : ℕ = getD (a .zone .now) (a .u) 0 in
-    c .before .before .leave .ensures
-    ∙ ap (λ (vs : List ℕ). madeAll (worldOf (a .run) (a .out .now)) (across vs (leaveMoves (kindAt (a .kind .now) (a .zone .now) (a .u)) (arrangementOf (stateOf (a .run .state)) vs) (a .r) (getD (a .place .now) (a .u) 0)))) (part (getD (a .first .now) z 0) (getD (a .size .now) z 0) (a .listed .now))
+    c .before .before .before .before .before .before .leave .ensures
+    ∙ ap (λ (vs : List ℕ). madeAll (worldIn (a .robots .now) (a .vertices .now) (a .count) (a .out .now)) (across vs (leaveMoves (kindAt (a .kind .now) (a .zone .now) (a .u)) (arrangementOf (tabled (a .robots .now) (a .vertices .now)) vs) (a .r) (getD (a .place .now) (a .u) 0)))) (part (getD (a .first .now) z 0) (getD (a .size .now) z 0) (a .listed .now))
 
 pub leave-at-spec : {M : Type 1} → statement M
 leave-at-spec =
@@ -86,4 +116,6 @@ leave-at-spec =
     part-leave-end
     leave-requires
     same-length
+    same-length-2
+    same-length-3
     returns)

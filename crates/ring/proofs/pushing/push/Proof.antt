@@ -160,10 +160,10 @@ loop2-again c =
     let v : c .before .before .before .before .before .before .before .before .before .before .before .before .before .before .vertex-at3 .result .0 ≡ getD z (wrap m (a .p + k)) 0 = c .before .before .before .before .before .before .before .before .before .before .before .before .before .before .vertex-at3 .ensures ∙ ap (λ (i : ℕ). getD z i 0) d in
     let t : c .before .before .before .before .before .before .before .before .before .before .before .before .before .vertex-at4 .result .0 ≡ getD z (wrap m (a .p + (k + 1))) 0 = c .before .before .before .before .before .before .before .before .before .before .before .before .before .vertex-at4 .ensures ∙ ap (λ (i : ℕ). getD z i 0) b in
     let e : c .before .before .before .before .before .before .before .before .before .before .if3 .r .0 ≡ robotOn s (getD z (wrap m (a .p + k)) 0) =
-        ⊎-elim
-        (λ w. ap (λ x. x .0) (w .1) ∙ c .before .before .before .before .before .before .before .before .before .before .before .before .before .before .before .before .before .before .before .before .robot-on .ensures ∙ ap (robotOn s) (c .before .before .before .before .before .before .before .before .before .before .before .before .before .before .before .before .before .before .before .before .before .vertex-at .ensures ∙ ap (λ (i : ℕ). getD z i 0) (sym (wrap-in m (a .p) h) ∙ ap (λ (i : ℕ). wrap m (a .p + i)) (sym (w .0 .taken)))))
-        (λ w. ap (λ x. x .0) (w .1) ∙ c .before .before .before .before .before .before .before .before .before .before .before .robot-on3 .ensures ∙ ap (robotOn (onVertices (o .robots))) v ∙ o .inv .8 .stays k (omega (arith, w .0 .left)) (omega arith))
-        (c .before .before .before .before .before .before .before .before .before .before .if3 .came) in
+    ⊎-elim
+    (λ w. ap (λ x. x .0) (w .1) ∙ c .before .before .before .before .before .before .before .before .before .before .before .before .before .before .before .before .before .before .before .before .robot-on .ensures ∙ ap (robotOn s) (c .before .before .before .before .before .before .before .before .before .before .before .before .before .before .before .before .before .before .before .before .before .vertex-at .ensures ∙ ap (λ (i : ℕ). getD z i 0) (sym (wrap-in m (a .p) h) ∙ ap (λ (i : ℕ). wrap m (a .p + i)) (sym (w .0 .taken)))))
+    (λ w. ap (λ x. x .0) (w .1) ∙ c .before .before .before .before .before .before .before .before .before .before .before .robot-on3 .ensures ∙ ap (robotOn (onVertices (o .robots))) v ∙ o .inv .8 .stays k (omega (arith, w .0 .left)) (omega arith))
+    (c .before .before .before .before .before .before .before .before .before .before .if3 .came) in
     let r : c .before .before .before .before .before .before .before .before .before .before .if3 .r .0 ≡ getD (runAt s z (a .p)) k 0 = run-robot s z (a .p) h k (c .before .before .before .before .before .before .before .before .before .before .if3 .r .0) (omega arith) l e in (
       search needs,
       search needs,
