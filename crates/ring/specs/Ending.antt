@@ -24,6 +24,7 @@ use Rattle.theory.specs.Zones.Arrangements.{cell→member, member→cell, cell-
 use Rattle.theory.specs.Basics.Searches.{seek-ok}
 use Rattle.theory.specs.Zones.Ring.Frames.{Within}
 use Rattle.theory.specs.Zones.Ring.Opened.{length-opened}
+use Rattle.motion.specs.Tables.{onVertices}
 use Rattle.motion.specs.World.{World, madeAll, made-none}
 use Rattle.motion.specs.Across.{made-both, across-nil, arrangement-length}
 use Rattle.motion.specs.Coupling.{Listed, Inside, arranged}
@@ -226,16 +227,16 @@ end-robot a g r e =
     ∙ ap (ringEndAt a g) d
 
 -- the push, then the hall
-pub end-both : (w u : World) (t : State) (vs os : List ℕ) (r j : ℕ) → Listed 128 vs → length (w .state .robots) ≡ 128
-    → lowest (order (arrangementOf (w .state) vs)) ≡ suc r → j < length vs → j ≡ seek (suc r) (arrangementOf t vs)
-    → seek (suc r) (arrangementOf (w .state) vs) < length vs → os ≡ opened j vs
-    → u ≡ madeAll w (across vs (pushTo (arrangementOf (w .state) vs) r j))
-    → madeAll u (across os (hallEnd (arrangementOf (u .state) os) (arrangementOf t os))) ≡ madeAll w (across vs (ringEnd (arrangementOf (w .state) vs) (arrangementOf t vs)))
-unfolding ringEndAt pushTo
-end-both w u t vs os r j L n e h d i o k =
+pub end-both : (w u : World) (t : State) (vs os : List ℕ) (r j : ℕ) → Listed (length (w .state .robots)) vs
+    → lowest (order (arrangementOf (onVertices (w .state .robots)) vs)) ≡ suc r → j < length vs → j ≡ seek (suc r) (arrangementOf t vs)
+    → seek (suc r) (arrangementOf (onVertices (w .state .robots)) vs) < length vs → os ≡ opened j vs
+    → u ≡ madeAll w (across vs (pushTo (arrangementOf (onVertices (w .state .robots)) vs) r j))
+    → madeAll u (across os (hallEnd (arrangementOf (onVertices (u .state .robots)) os) (arrangementOf t os)))
+    ≡ madeAll w (across vs (ringEnd (arrangementOf (onVertices (w .state .robots)) vs) (arrangementOf t vs)))
+unfolding ringEndAt pushTo arrangementOf
+end-both w u t vs os r j M e h d i o k =
     let a : Arrangement = arrangementOf (w .state) vs in
     let g : Arrangement = arrangementOf t vs in
-    let M : Listed (length (w .state .robots)) vs = rw n L in
     let b : arrangementOf (u .state) vs ≡ applyAll a (pushTo a r j) = arranged w u vs (pushTo a r j) M (inside-pushes (ahead (length a) (seek (suc r) a) j) (w .state) vs (seek (suc r) a) M i) k in
     let x : arrangementOf (u .state) os ≡ opened j (applyAll a (pushTo a r j)) = ap (arrangementOf (u .state)) o ∙ opened-arrangement (u .state) vs j ∙ ap (opened j) b in
     let y : arrangementOf t os ≡ opened j g = ap (arrangementOf t) o ∙ opened-arrangement t vs j in

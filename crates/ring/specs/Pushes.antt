@@ -6,15 +6,16 @@ use mathlib.Core.List.{List, [], _∷_, _++_, map, map-append}
 use native.Mathlib.Numerals.{add-one}
 use native.Mathlib.Omega.{arith}
 use native.Mathlib.Nat.{not-suc-le-zero}
-use lib.ListN.{length, getD, drop, drop-of-length-le}
-use lib.Seq.{drop-cons}
+use lib.ListN.{length, getD, set, drop, drop-of-length-le}
+use lib.Seq.{drop-cons, getD-set-other}
 use Rattle.spec.specs.Arrangement.{Arrangement, Move, mv, applyAll, seek}
 use Rattle.spec.specs.Ring.{wrap, frame, inRing, run, shove, push, pushes, ahead, pushTo, ringLeave}
-use Rattle.spec.specs.State.{State, movedAll, arrangementOf, acrossMove, across}
+use Rattle.spec.specs.State.{State, robotOn, moved, movedAll, arrangementOf, acrossMove, across}
+use Rattle.motion.specs.Tables.{onVertices}
 use Rattle.motion.specs.World.{World, made, madeAll, made-none, robots-length}
 use Rattle.motion.specs.Across.{made-both, made-last, across-nil, arrangement-length}
 use Rattle.motion.specs.Coupling.{Listed, Inside, none, more, inside-append, coupled, arranged}
-use Rattle.ring.specs.Places.{nextPlace, wrap-under, next-under}
+use Rattle.ring.specs.Places.{nextPlace, wrap-under, wrap-other, next-under}
 use Rattle.ring.specs.Runs.{runAt, run-short, run-named, frame-size}
 
 -- `push` is the name of a function too
@@ -53,6 +54,41 @@ pub push-step : (w u v : World) (s : State) (vs : List ℕ) (p k r f t : ℕ) �
 push-step w u v s vs p k r f t l er ef et eu ev =
     made-last w u v vs (mv r f t) (pushFrom s vs p (k + 1)) eu ev
     ∙ ap (λ (ms : List Move). madeAll w (across vs ms)) (rw (er, ef, et) (sym (push-more s vs p k l)))
+
+-- ---- a push reads the robots while it moves them
+
+-- the robots less than k places on from p, but for the one on p, stand in t where they stood in s
+pub record Unmoved (s t : State) (vs : List ℕ) (p k : ℕ) : Type 0 where
+  pub stays : (i : ℕ) → 0 < i → i < k → robotOn t (getD vs (wrap (length vs) (p + i)) 0) ≡ robotOn s (getD vs (wrap (length vs) (p + i)) 0)
+
+-- nobody moved
+pub unmoved-all : (s : State) (vs : List ℕ) (p k : ℕ) → Unmoved s s vs p k
+unmoved-all s vs p k = record { stays = λ i z l. refl }
+
+-- a move changes two vertices only
+move-stays : (w u : World) (r f t v : ℕ) → u ≡ made w (mv r f t) → v ≢ f → v ≢ t → robotOn (onVertices (u .state .robots)) v ≡ robotOn (onVertices (w .state .robots)) v
+unfolding made moved
+move-stays w u r f t v e a b =
+    ap (λ (x : World). getD (x .state .robots) v 255) e
+    ∙ getD-set-other (set (w .state .robots) f 255) t v r 255 b
+    ∙ getD-set-other (w .state .robots) f v 255 255 a
+
+-- the robot k places on went one place on: those behind it stand where they stood
+pub unmoved-behind : (s : State) (w u : World) (vs : List ℕ) (n p k r f t : ℕ) → Listed n vs → p < length vs → k < length vs
+    → f ≡ getD vs (wrap (length vs) (p + k)) 0 → t ≡ getD vs (wrap (length vs) (p + (k + 1))) 0
+    → u ≡ made w (mv r f t) → Unmoved s (onVertices (w .state .robots)) vs p (k + 1) → Unmoved s (onVertices (u .state .robots)) vs p k
+unmoved-behind s w u vs n p k r f t L h l ef et e U =
+    record {
+      stays =
+          λ i z q.
+          move-stays w u r f t (getD vs (wrap (length vs) (p + i)) 0) e (λ d. away i k z q (omega arith) (d ∙ ef)) (λ d. away i (k + 1) z (omega arith) (omega arith) (d ∙ et))
+          ∙ U .stays i z (omega arith);
+    }
+  where
+    away : (i q : ℕ) → 0 < i → i < q → q ≤ length vs → getD vs (wrap (length vs) (p + i)) 0 ≢ getD vs (wrap (length vs) (p + q)) 0
+    away i q z a b d =
+        wrap-other (length vs) p i q h z a b
+        (L .once (wrap (length vs) (p + i)) (wrap (length vs) (p + q)) (wrap-under (length vs) p i h (omega arith)) (wrap-under (length vs) p q h b) d)
 
 -- ---- pushes keep to the ring
 
@@ -103,11 +139,12 @@ inside-pushes (suc n) s vs p L h =
     (inside-pushes n t vs (nextPlace (length vs) p) M (next-under (length vs) p h)))
 
 -- one push, then the rest
-pub pushes-step : (w u : World) (vs : List ℕ) (p q n : ℕ) → Listed 128 vs → p < length vs → length (w .state .robots) ≡ 128 → 0 < n
-    → q ≡ nextPlace (length vs) p → u ≡ madeAll w (across vs (push (arrangementOf (w .state) vs) p))
-    → madeAll u (across vs (pushes (n - 1) (arrangementOf (u .state) vs) q)) ≡ madeAll w (across vs (pushes n (arrangementOf (w .state) vs) p))
-pushes-step w u vs p q n L h e z d k =
-    let M : Listed (length (w .state .robots)) vs = rw e L in
+pub pushes-step : (w u : World) (vs : List ℕ) (p q n : ℕ) → Listed (length (w .state .robots)) vs → p < length vs → 0 < n
+    → q ≡ nextPlace (length vs) p → u ≡ madeAll w (across vs (push (arrangementOf (onVertices (w .state .robots)) vs) p))
+    → madeAll u (across vs (pushes (n - 1) (arrangementOf (onVertices (u .state .robots)) vs) q))
+    ≡ madeAll w (across vs (pushes n (arrangementOf (onVertices (w .state .robots)) vs) p))
+unfolding arrangementOf
+pushes-step w u vs p q n M h z d k =
     made-both w u vs (push (arrangementOf (w .state) vs) p) (pushes (n - 1) (arrangementOf (u .state) vs) q) k
     ∙ ap (λ (ms : List Move). madeAll w (across vs ms))
     (sym (pushes-more n (arrangementOf (w .state) vs) (arrangementOf (u .state) vs) p q z

@@ -18,6 +18,7 @@ use Rattle.theory.specs.Maps.Cells.{cell-of, cell-none, cell-robot, cell-empty}
 use Rattle.theory.specs.Zones.Arrangements.{order-append, member→cell, cell-inside}
 use Rattle.theory.specs.Basics.Searches.{seek-ok}
 use Rattle.theory.specs.Zones.Ring.Opened.{length-opened}
+use Rattle.motion.specs.Tables.{onVertices}
 use Rattle.motion.specs.World.{World, madeAll, made-none}
 use Rattle.motion.specs.Across.{made-both, across-nil, arrangement-length, arrangement-at}
 use Rattle.motion.specs.Coupling.{Listed, arranged}
@@ -167,11 +168,12 @@ turn-more (suc n) a b j named p h e q d = go (entryOpen a j named) refl
         rw (f, turnFor) (rw (z, d, g))
 
 -- one push, then the rest
-pub turn-step : (w u : World) (vs : List ℕ) (j named p n : ℕ) → Listed 128 vs → p < length vs → length (w .state .robots) ≡ 128 → 0 < n
-    → p ≡ turnAt (arrangementOf (w .state) vs) j named → u ≡ madeAll w (across vs (push (arrangementOf (w .state) vs) p))
-    → madeAll u (across vs (turnFor (n - 1) (arrangementOf (u .state) vs) j named)) ≡ madeAll w (across vs (turnFor n (arrangementOf (w .state) vs) j named))
-turn-step w u vs j named p n L h e z d k =
-    let M : Listed (length (w .state .robots)) vs = rw e L in
+pub turn-step : (w u : World) (vs : List ℕ) (j named p n : ℕ) → Listed (length (w .state .robots)) vs → p < length vs → 0 < n
+    → p ≡ turnAt (arrangementOf (onVertices (w .state .robots)) vs) j named → u ≡ madeAll w (across vs (push (arrangementOf (onVertices (w .state .robots)) vs) p))
+    → madeAll u (across vs (turnFor (n - 1) (arrangementOf (onVertices (u .state .robots)) vs) j named))
+    ≡ madeAll w (across vs (turnFor n (arrangementOf (onVertices (w .state .robots)) vs) j named))
+unfolding arrangementOf
+turn-step w u vs j named p n M h z d k =
     made-both w u vs (push (arrangementOf (w .state) vs) p) (turnFor (n - 1) (arrangementOf (u .state) vs) j named) k
     ∙ ap (λ (ms : List Move). madeAll w (across vs ms))
     (sym (turn-more n (arrangementOf (w .state) vs) (arrangementOf (u .state) vs) j named p z d (λ q. omega (arith, q, arrangement-length (w .state) vs))
@@ -183,12 +185,12 @@ unfolding turnFor
 turn-over w vs a j named n e = made-none w (across vs (turnFor n a j named)) (ap (λ (k : ℕ). across vs (turnFor k a j named)) e ∙ across-nil vs)
 
 -- no push is needed
-pub turn-rest : (w : World) (vs : List ℕ) (j named n : ℕ) → j < length vs → length vs ≡ turnAt (arrangementOf (w .state) vs) j named
-    → w ≡ madeAll w (across vs (turnFor n (arrangementOf (w .state) vs) j named))
-turn-rest w vs j named n h e =
-    made-none w (across vs (turnFor n (arrangementOf (w .state) vs) j named))
-    (ap (across vs) (turn-done n (arrangementOf (w .state) vs) j named (omega (arith, arrangement-length (w .state) vs)) (no-255 (w .state) vs)
-    (sym e ∙ sym (arrangement-length (w .state) vs))) ∙ across-nil vs)
+pub turn-rest : (w : World) (s : State) (vs : List ℕ) (j named n : ℕ) → j < length vs → length vs ≡ turnAt (arrangementOf s vs) j named
+    → w ≡ madeAll w (across vs (turnFor n (arrangementOf s vs) j named))
+turn-rest w s vs j named n h e =
+    made-none w (across vs (turnFor n (arrangementOf s vs) j named))
+    (ap (across vs) (turn-done n (arrangementOf s vs) j named (omega (arith, arrangement-length s vs)) (no-255 s vs)
+    (sym e ∙ sym (arrangement-length s vs))) ∙ across-nil vs)
 
 -- ---- where the push begins, as the code finds it
 

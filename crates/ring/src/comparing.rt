@@ -6,21 +6,20 @@ ghost use Rattle.spec.specs.Outcome.{sameList};
 ghost use Rattle.spec.specs.Arrangement.{order};
 ghost use Rattle.spec.specs.Ring.{frame, turned};
 ghost use Rattle.spec.specs.State.{arrangementOf};
-ghost use Rattle.motion.specs.States.{stateOf};
+ghost use Rattle.motion.specs.Tables.{onVertices};
 ghost use Rattle.ring.specs.Comparing.{Taken};
 use crate::places::around;
 use crate::reading::is_vacant;
 use crate::reading::robot_at;
-use motion::State;
 use motion::place_of;
 
 // Do the same robots stand on the same places.
-pub fn same_cells(s: State, goals: State, zone: &[u8]) -> bool
-    ensures { λ b. ⌜ b ≡ sameList (arrangementOf (stateOf s) (now (zone .entry))) (arrangementOf (stateOf goals) (now (zone .entry))) ⌝ }
+pub fn same_cells(robots: &[u8], goals: &[u8], zone: &[u8]) -> bool
+    ensures { λ b. ⌜ b ≡ sameList (arrangementOf (onVertices (now (robots .entry))) (now (zone .entry))) (arrangementOf (onVertices (now (goals .entry))) (now (zone .entry))) ⌝ }
 {
     let mut i: usize = 0;
     while i < zone.len() {
-        let x = robot_at(s, zone, i);
+        let x = robot_at(robots, zone, i);
         let y = robot_at(goals, zone, i);
         if x.0 != y.0 {
             return false;
@@ -31,14 +30,14 @@ pub fn same_cells(s: State, goals: State, zone: &[u8]) -> bool
 }
 
 // The first taken place from place k on, of the ring read from place p on; the size where there is none.
-pub fn taken_from(s: State, zone: &[u8], p: usize, k: usize) -> usize
+pub fn taken_from(robots: &[u8], zone: &[u8], p: usize, k: usize) -> usize
     requires { ⌜ (p < length (now zone)) × (k ≤ length (now zone)) ⌝ }
-    ensures { λ i. ⌜ Taken (frame p (arrangementOf (stateOf s) (now (zone .entry)))) k i ⌝ }
+    ensures { λ i. ⌜ Taken (frame p (arrangementOf (onVertices (now (robots .entry))) (now (zone .entry)))) k i ⌝ }
 {
     let m = zone.len();
     let mut i = k;
     while i < m {
-        let x = robot_at(s, zone, around(m, p, i));
+        let x = robot_at(robots, zone, around(m, p, i));
         if x.0 != 255 {
             return i;
         }
@@ -48,15 +47,15 @@ pub fn taken_from(s: State, zone: &[u8], p: usize, k: usize) -> usize
 }
 
 // Is the order of the robots that of the goals read from place q on.
-pub fn same_round(s: State, goals: State, zone: &[u8], q: usize) -> bool
+pub fn same_round(robots: &[u8], goals: &[u8], zone: &[u8], q: usize) -> bool
     requires { ⌜ q < length (now zone) ⌝ }
-    ensures { λ b. ⌜ b ≡ sameList (order (arrangementOf (stateOf s) (now (zone .entry)))) (order (frame q (arrangementOf (stateOf goals) (now (zone .entry))))) ⌝ }
+    ensures { λ b. ⌜ b ≡ sameList (order (arrangementOf (onVertices (now (robots .entry))) (now (zone .entry)))) (order (frame q (arrangementOf (onVertices (now (goals .entry))) (now (zone .entry))))) ⌝ }
 {
     let m = zone.len();
     let mut i: usize = 0;
     let mut k: usize = 0;
     while i < m {
-        let x = robot_at(s, zone, i);
+        let x = robot_at(robots, zone, i);
         i += 1;
         if x.0 != 255 {
             k = taken_from(goals, zone, q, k);
@@ -75,19 +74,19 @@ pub fn same_round(s: State, goals: State, zone: &[u8], q: usize) -> bool
 }
 
 // Is the order of the robots that of the goals, turned: read from the place of the first robot on.
-pub fn same_turned(s: State, goals: State, zone: &[u8]) -> bool
+pub fn same_turned(robots: &[u8], goals: &[u8], zone: &[u8]) -> bool
     requires { ⌜ 0 < length (now zone) ⌝ }
-    ensures { λ b. ⌜ b ≡ turned (order (arrangementOf (stateOf s) (now (zone .entry)))) (order (arrangementOf (stateOf goals) (now (zone .entry)))) ⌝ }
+    ensures { λ b. ⌜ b ≡ turned (order (arrangementOf (onVertices (now (robots .entry))) (now (zone .entry)))) (order (arrangementOf (onVertices (now (goals .entry))) (now (zone .entry)))) ⌝ }
 {
     let m = zone.len();
-    let p = taken_from(s, zone, 0, 0);
+    let p = taken_from(robots, zone, 0, 0);
     if p == m {
         return is_vacant(goals, zone);
     }
-    let r = robot_at(s, zone, p);
+    let r = robot_at(robots, zone, p);
     let q = place_of(goals, zone, r);
     if q == m {
         return false;
     }
-    same_round(s, goals, zone, q)
+    same_round(robots, goals, zone, q)
 }

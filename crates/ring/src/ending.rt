@@ -5,23 +5,22 @@ ghost use lib.ListN.{length, take};
 ghost use Rattle.spec.specs.Arrangement.{order};
 ghost use Rattle.spec.specs.Ring.{opened};
 ghost use Rattle.spec.specs.State.{arrangementOf, cellOf};
-ghost use Rattle.motion.specs.States.{stateOf};
+ghost use Rattle.motion.specs.Tables.{onVertices};
 ghost use Rattle.ring.specs.Ending.{lowestCell};
 use crate::places::next;
 use crate::reading::robot_at;
-use motion::State;
 use motion::vertex_at;
 use numbering::Robot;
 
 // "the ring's lowest-numbered cart"; 255 where there is none.
-pub fn lowest(s: State, zone: &[u8]) -> Robot
-    ensures { λ r. ⌜ cellOf (r .0) ≡ lowestCell (order (arrangementOf (stateOf s) (now (zone .entry)))) ⌝ }
+pub fn lowest(robots: &[u8], zone: &[u8]) -> Robot
+    ensures { λ r. ⌜ cellOf (r .0) ≡ lowestCell (order (arrangementOf (onVertices (now (robots .entry))) (now (zone .entry)))) ⌝ }
 {
     let mut best: u8 = 255;
     let mut k = zone.len();
     while 0 < k {
         k -= 1;
-        let x = robot_at(s, zone, k);
+        let x = robot_at(robots, zone, k);
         if x.0 < best {
             best = x.0;
         }

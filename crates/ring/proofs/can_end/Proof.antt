@@ -2,41 +2,42 @@ use borrow.Author.Needs.{needs}
 use native.Mathlib.Omega.{arith}
 use mathlib.Core.Path.{sym, _∙_}
 use Rattle.spec.specs.State.{arrangementOf}
-use Rattle.motion.specs.States.{stateOf}
+use Rattle.motion.specs.Tables.{onVertices}
 use Rattle.motion.specs.Across.{arrangement-length}
 use Rattle.ring.specs.Comparing.{end-full, end-open, full-some}
 use Rattle.ring.proofs.can_end.Statement.{statement}
 use Rattle.ring.proofs.can_end.Tie as tie
 use Rattle.ring.proofs.can_end.Reads as reads
 use Rattle.ring.proofs.can_end.Lts as lts
+use Rattle.motion.proofs.is_full.Reads as is-full-reads
 use Rattle.ring.proofs.comparing.same_cells.Reads as same-cells-reads
 use Rattle.ring.proofs.comparing.same_turned.Reads as same-turned-reads
 
--- src/lib.rt:99:8
+-- src/lib.rt:116:8
 is-full-requires : tie.Need-is-full-requires
 is-full-requires c κs = search needs
 
--- src/lib.rt:100:9
+-- src/lib.rt:117:9
 same-cells-requires : tie.Need-same-cells-requires
 same-cells-requires c κs = search needs
 
--- src/lib.rt:100:9
+-- src/lib.rt:117:9
 returns : tie.Need-returns
 returns c =
-    let a = c .before .before .before .before .args in
-    c .same-cells .ensures ∙ end-full (arrangementOf (stateOf (a .s)) (a .zone .now)) (arrangementOf (stateOf (a .goals)) (a .zone .now)) (sym (c .before .before .is-full .ensures) ∙ c .before .if1 .taken)
+    let a = c .before .before .before .before .before .before .args in
+    c .same-cells .ensures ∙ end-full (arrangementOf (onVertices (a .robots .now)) (a .zone .now)) (arrangementOf (onVertices (a .goals .now)) (a .zone .now)) (sym (c .before .before .is-full .ensures) ∙ c .before .if1 .taken)
 
--- src/lib.rt:102:5
+-- src/lib.rt:119:5
 same-turned-requires : tie.Need-same-turned-requires
 same-turned-requires c κs =
-    let a = c .before .before .before .args in
-    omega (arith, full-some (arrangementOf (stateOf (a .s)) (a .zone .now)) (sym (c .before .is-full .ensures) ∙ c .if1 .left), arrangement-length (stateOf (a .s)) (a .zone .now))
+    let a = c .before .before .before .before .before .args in
+    omega (arith, full-some (arrangementOf (onVertices (a .robots .now)) (a .zone .now)) (sym (c .before .is-full .ensures) ∙ c .if1 .left), arrangement-length (onVertices (a .robots .now)) (a .zone .now))
 
--- src/lib.rt:96:1
+-- src/lib.rt:113:1
 returns-2 : tie.Need-returns-2
 returns-2 c =
-    let a = c .before .before .before .before .args in
-    c .same-turned .ensures ∙ end-open (arrangementOf (stateOf (a .s)) (a .zone .now)) (arrangementOf (stateOf (a .goals)) (a .zone .now)) (sym (c .before .before .is-full .ensures) ∙ c .before .if1 .left)
+    let a = c .before .before .before .before .before .before .args in
+    c .same-turned .ensures ∙ end-open (arrangementOf (onVertices (a .robots .now)) (a .zone .now)) (arrangementOf (onVertices (a .goals .now)) (a .zone .now)) (sym (c .before .before .is-full .ensures) ∙ c .before .if1 .left)
 
 pub can-end-spec : {M : Type 1} → statement M
 can-end-spec =

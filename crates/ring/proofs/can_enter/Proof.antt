@@ -2,41 +2,42 @@ use borrow.Author.Needs.{needs}
 use native.Mathlib.Omega.{arith}
 use mathlib.Core.Path.{sym, _∙_}
 use Rattle.spec.specs.State.{arrangementOf}
-use Rattle.motion.specs.States.{stateOf}
+use Rattle.motion.specs.Tables.{onVertices}
 use Rattle.motion.specs.Across.{arrangement-length}
 use Rattle.ring.specs.Reading.{enter-inside, enter-vacant, enter-outside}
 use Rattle.ring.proofs.can_enter.Statement.{statement}
 use Rattle.ring.proofs.can_enter.Tie as tie
 use Rattle.ring.proofs.can_enter.Reads as reads
 use Rattle.ring.proofs.can_enter.Lts as lts
+use Rattle.motion.proofs.place_of.Reads as place-of-reads
 use Rattle.ring.proofs.reading.is_vacant.Reads as is-vacant-reads
 
--- src/lib.rt:59:8
+-- src/lib.rt:74:8
 place-of-requires : tie.Need-place-of-requires
 place-of-requires c κs = search needs
 
--- src/lib.rt:60:9
+-- src/lib.rt:75:9
 returns : tie.Need-returns
 returns c =
-    let a = c .before .before .before .args in
-    enter-inside (arrangementOf (stateOf (a .s)) (a .zone .now)) (a .j) (a .behind) (omega (arith, c .before .place-of .ensures, c .if1 .taken, arrangement-length (stateOf (a .s)) (a .zone .now)))
+    let a = c .before .before .before .before .args in
+    enter-inside (arrangementOf (onVertices (a .robots .now)) (a .zone .now)) (a .j) (a .behind) (omega (arith, c .before .place-of .ensures, c .if1 .taken, arrangement-length (onVertices (a .robots .now)) (a .zone .now)))
 
--- src/lib.rt:63:9
+-- src/lib.rt:78:9
 is-vacant-requires : tie.Need-is-vacant-requires
 is-vacant-requires c κs = search needs
 
--- src/lib.rt:63:9
+-- src/lib.rt:78:9
 returns-2 : tie.Need-returns-2
 returns-2 c =
-    let a = c .before .before .before .before .before .args in
+    let a = c .before .before .before .before .before .before .args in
     c .is-vacant .ensures
-    ∙ enter-vacant (arrangementOf (stateOf (a .s)) (a .zone .now)) (a .j) (a .behind) (omega (arith, c .before .before .before .place-of .ensures, c .before .before .if1 .left, arrangement-length (stateOf (a .s)) (a .zone .now))) (c .before .if2 .taken)
+    ∙ enter-vacant (arrangementOf (onVertices (a .robots .now)) (a .zone .now)) (a .j) (a .behind) (omega (arith, c .before .before .before .place-of .ensures, c .before .before .if1 .left, arrangement-length (onVertices (a .robots .now)) (a .zone .now))) (c .before .if2 .taken)
 
--- src/lib.rt:56:1
+-- src/lib.rt:71:1
 returns-3 : tie.Need-returns-3
 returns-3 c =
-    let a = c .before .before .before .before .args in
-    enter-outside (arrangementOf (stateOf (a .s)) (a .zone .now)) (a .j) (a .behind) (omega (arith, c .before .before .place-of .ensures, c .before .if1 .left, arrangement-length (stateOf (a .s)) (a .zone .now))) (c .if2 .left)
+    let a = c .before .before .before .before .before .args in
+    enter-outside (arrangementOf (onVertices (a .robots .now)) (a .zone .now)) (a .j) (a .behind) (omega (arith, c .before .before .place-of .ensures, c .before .if1 .left, arrangement-length (onVertices (a .robots .now)) (a .zone .now))) (c .if2 .left)
 
 pub can-enter-spec : {M : Type 1} → statement M
 can-enter-spec =

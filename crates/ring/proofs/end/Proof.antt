@@ -2,10 +2,10 @@ use borrow.Author.Needs.{needs}
 use native.Mathlib.Omega.{arith}
 use mathlib.Core.Path.{_≡_, refl, ap, sym, _∙_}
 use Prim.Native.Nat.{suc, _<_, _-_}
-use lib.ListN.{length, length-map}
+use lib.ListN.{length}
 use Rattle.spec.specs.State.{arrangementOf, across}
-use Rattle.motion.specs.States.{stateOf, robotNo, length-mapped}
-use Rattle.motion.specs.World.{worldOf, madeAll}
+use Rattle.motion.specs.Tables.{onVertices}
+use Rattle.motion.specs.World.{worldIn, madeAll}
 use Rattle.theory.specs.Maps.Cells.{cell-of}
 use Rattle.ring.specs.Ending.{ends-nobody, ends-stands, ends-goal, end-both, opened-count}
 use Rattle.ring.proofs.end.Statement.{statement}
@@ -13,94 +13,108 @@ use Rattle.ring.proofs.end.Tie as tie
 use Rattle.ring.proofs.end.Reads as reads
 use Rattle.ring.proofs.end.Lts as lts
 use Rattle.hall.proofs.end.Reads as end-reads
+use Rattle.motion.proofs.place_of.Reads as place-of-reads
 use Rattle.ring.proofs.ending.lowest.Reads as lowest-reads
 use Rattle.ring.proofs.ending.open_at.Reads as open-at-reads
 use Rattle.ring.proofs.pushing.push_to.Reads as push-to-reads
 
--- src/lib.rt:118:9
+-- src/lib.rt:137:9
 lowest-requires : tie.Need-lowest-requires
 lowest-requires c κs = search needs
 
--- src/lib.rt:120:9
-returns : tie.Need-returns
-returns c =
-    let a = c .before .before .before .before .before .before .args in
-    ends-nobody (stateOf (a .run .state)) (stateOf (a .goals)) (a .zone .now) (c .before .before .lowest .result .0) (c .before .before .lowest .ensures) (c .if1 .taken) (worldOf (a .run) (a .out .now))
-
--- src/lib.rt:122:9
-place-of-requires : tie.Need-place-of-requires
-place-of-requires c κs = search needs
-
--- src/lib.rt:123:9
-push-to-requires : tie.Need-push-to-requires
-push-to-requires c κs =
-    let a = c .before .before .before .before .before .before .before .before .args in
-    let z = a .zone .now in (
-      omega (arith, c .before .place-of .ensures, ends-goal (stateOf (a .run .state)) (stateOf (a .goals)) z (c .before .before .before .before .lowest .result .0) (c .before .before .before .before .lowest .ensures) (c .before .before .if1 .left) (c .before .before .before .before .before .before .before .before .pre .1 .1)),
-      (c .before .before .before .before .before .before .before .before .pre .1 .0, ends-stands (stateOf (a .run .state)) (stateOf (a .goals)) z (c .before .before .before .before .lowest .result .0) (c .before .before .before .before .lowest .ensures) (c .before .before .if1 .left)),
-    )
-
--- src/lib.rt:125:22
-slice-aggregate-open-at : tie.Need-slice-aggregate-open-at
-slice-aggregate-open-at c = search needs
-
--- src/lib.rt:125:5
-open-at-requires : tie.Need-open-at-requires
-open-at-requires c κs =
-    let a = c .before .before .before .before .before .before .before .before .before .before .before .before .args in
-    let z = a .zone .now in (
-      omega (arith, c .before .before .before .before .before .place-of .ensures, ends-goal (stateOf (a .run .state)) (stateOf (a .goals)) z (c .before .before .before .before .before .before .before .before .lowest .result .0) (c .before .before .before .before .before .before .before .before .lowest .ensures) (c .before .before .before .before .before .before .if1 .left) (c .before .before .before .before .before .before .before .before .before .before .before .before .pre .1 .1)),
-      search needs,
-    )
-
--- src/lib.rt:126:13
-sub-n : tie.Need-sub-n
-sub-n c =
-    let a = c .before .before .before .before .before .before .before .before .before .before .before .before .before .before .args in
-    omega (arith, ends-stands (stateOf (a .run .state)) (stateOf (a .goals)) (a .zone .now) (c .before .before .before .before .before .before .before .before .before .before .lowest .result .0) (c .before .before .before .before .before .before .before .before .before .before .lowest .ensures) (c .before .before .before .before .before .before .before .before .if1 .left))
-
--- src/lib.rt:127:23
-array-share-prefix-others : tie.Need-array-share-prefix-others
-array-share-prefix-others c = search needs
-
--- src/lib.rt:127:23
-slice-aggregate-end : tie.Need-slice-aggregate-end
-slice-aggregate-end c =
-    let a = c .before .before .before .before .before .before .before .before .before .before .before .before .before .before .before .args in
-    let z = a .zone .now in
-    let h : c .before .before .before .before .before .before .before .before .place-of .result < length z = omega (arith, c .before .before .before .before .before .before .before .before .place-of .ensures, ends-goal (stateOf (a .run .state)) (stateOf (a .goals)) z (c .before .before .before .before .before .before .before .before .before .before .before .lowest .result .0) (c .before .before .before .before .before .before .before .before .before .before .before .lowest .ensures) (c .before .before .before .before .before .before .before .before .before .if1 .left) (c .before .before .before .before .before .before .before .before .before .before .before .before .before .before .before .pre .1 .1)) in
-    opened-count z _ (c .before .before .before .before .before .before .before .before .place-of .result) h (c .before .before .open-at .ensures)
-
--- src/lib.rt:127:5
-end-requires : tie.Need-end-requires
-end-requires c κs =
-    let a = c .before .before .before .before .before .before .before .before .before .before .before .before .before .before .before .before .args in
-    let z = a .zone .now in
-    let h : c .before .before .before .before .before .before .before .before .before .place-of .result < length z = omega (arith, c .before .before .before .before .before .before .before .before .before .place-of .ensures, ends-goal (stateOf (a .run .state)) (stateOf (a .goals)) z (c .before .before .before .before .before .before .before .before .before .before .before .before .lowest .result .0) (c .before .before .before .before .before .before .before .before .before .before .before .before .lowest .ensures) (c .before .before .before .before .before .before .before .before .before .before .if1 .left) (c .before .before .before .before .before .before .before .before .before .before .before .before .before .before .before .before .pre .1 .1)) in
-    omega (arith, opened-count z _ (c .before .before .before .before .before .before .before .before .before .place-of .result) h (c .before .before .before .open-at .ensures), c .before .before .before .before .before .before .before .before .before .before .before .before .before .before .before .before .pre .0)
-
--- src/lib.rt:111:1
+-- src/lib.rt:139:9
 same-length : tie.Need-same-length
 same-length c = search needs
 
--- src/lib.rt:111:1
+-- src/lib.rt:139:9
+returns : tie.Need-returns
+returns c =
+    let a = c .before .before .before .before .before .before .before .before .before .args in
+    ends-nobody (onVertices (a .robots .now)) (onVertices (a .goals .now)) (a .zone .now) (c .before .before .lowest .result .0) (c .before .before .lowest .ensures) (c .if1 .taken) (worldIn (a .robots .now) (a .vertices .now) (a .count) (a .out .now))
+
+-- src/lib.rt:141:9
+place-of-requires : tie.Need-place-of-requires
+place-of-requires c κs = search needs
+
+-- src/lib.rt:142:9
+push-to-requires : tie.Need-push-to-requires
+push-to-requires c κs =
+    let a = c .before .before .before .before .before .before .before .before .before .before .before .before .before .args in
+    let z = a .zone .now in (
+      omega (arith, c .before .before .before .place-of .ensures, ends-goal (onVertices (a .robots .now)) (onVertices (a .goals .now)) z (c .before .before .before .before .before .before .lowest .result .0) (c .before .before .before .before .before .before .lowest .ensures) (c .before .before .before .before .if1 .left) (c .before .before .before .before .before .before .before .before .before .before .before .before .before .pre .1 .1)),
+      (c .before .before .before .before .before .before .before .before .before .before .before .before .before .pre .1 .0, ends-stands (onVertices (a .robots .now)) (onVertices (a .goals .now)) z (c .before .before .before .before .before .before .lowest .result .0) (c .before .before .before .before .before .before .lowest .ensures) (c .before .before .before .before .if1 .left)),
+    )
+
+-- src/lib.rt:144:22
+slice-aggregate-open-at : tie.Need-slice-aggregate-open-at
+slice-aggregate-open-at c = search needs
+
+-- src/lib.rt:144:5
+open-at-requires : tie.Need-open-at-requires
+open-at-requires c κs =
+    let a = c .before .before .before .before .before .before .before .before .before .before .before .before .before .before .before .before .before .before .before .before .before .args in
+    let z = a .zone .now in (
+      omega (arith, c .before .before .before .before .before .before .before .before .before .before .before .place-of .ensures, ends-goal (onVertices (a .robots .now)) (onVertices (a .goals .now)) z (c .before .before .before .before .before .before .before .before .before .before .before .before .before .before .lowest .result .0) (c .before .before .before .before .before .before .before .before .before .before .before .before .before .before .lowest .ensures) (c .before .before .before .before .before .before .before .before .before .before .before .before .if1 .left) (c .before .before .before .before .before .before .before .before .before .before .before .before .before .before .before .before .before .before .before .before .before .pre .1 .1)),
+      search needs,
+    )
+
+-- src/lib.rt:145:13
+sub-n : tie.Need-sub-n
+sub-n c =
+    let a = c .before .before .before .before .before .before .before .before .before .before .before .before .before .before .before .before .before .before .before .before .before .before .before .args in
+    omega (arith, ends-stands (onVertices (a .robots .now)) (onVertices (a .goals .now)) (a .zone .now) (c .before .before .before .before .before .before .before .before .before .before .before .before .before .before .before .before .lowest .result .0) (c .before .before .before .before .before .before .before .before .before .before .before .before .before .before .before .before .lowest .ensures) (c .before .before .before .before .before .before .before .before .before .before .before .before .before .before .if1 .left))
+
+-- src/lib.rt:146:41
+array-share-prefix-others : tie.Need-array-share-prefix-others
+array-share-prefix-others c = search needs
+
+-- src/lib.rt:146:41
+slice-aggregate-end : tie.Need-slice-aggregate-end
+slice-aggregate-end c =
+    let a = c .before .before .before .before .before .before .before .before .before .before .before .before .before .before .before .before .before .before .before .before .before .before .before .before .before .before .args in
+    let z = a .zone .now in
+    let h : c .before .before .before .before .before .before .before .before .before .before .before .before .before .before .before .before .place-of .result < length z = omega (arith, c .before .before .before .before .before .before .before .before .before .before .before .before .before .before .before .before .place-of .ensures, ends-goal (onVertices (a .robots .now)) (onVertices (a .goals .now)) z (c .before .before .before .before .before .before .before .before .before .before .before .before .before .before .before .before .before .before .before .lowest .result .0) (c .before .before .before .before .before .before .before .before .before .before .before .before .before .before .before .before .before .before .before .lowest .ensures) (c .before .before .before .before .before .before .before .before .before .before .before .before .before .before .before .before .before .if1 .left) (c .before .before .before .before .before .before .before .before .before .before .before .before .before .before .before .before .before .before .before .before .before .before .before .before .before .before .pre .1 .1)) in
+    opened-count z _ (c .before .before .before .before .before .before .before .before .before .before .before .before .before .before .before .before .place-of .result) h (c .before .before .before .before .open-at .ensures)
+
+-- src/lib.rt:146:5
+end-requires : tie.Need-end-requires
+end-requires c κs =
+    let a = c .before .before .before .before .before .before .before .before .before .before .before .before .before .before .before .before .before .before .before .before .before .before .before .before .before .before .before .args in
+    let z = a .zone .now in
+    let h : c .before .before .before .before .before .before .before .before .before .before .before .before .before .before .before .before .before .place-of .result < length z = omega (arith, c .before .before .before .before .before .before .before .before .before .before .before .before .before .before .before .before .before .place-of .ensures, ends-goal (onVertices (a .robots .now)) (onVertices (a .goals .now)) z (c .before .before .before .before .before .before .before .before .before .before .before .before .before .before .before .before .before .before .before .before .lowest .result .0) (c .before .before .before .before .before .before .before .before .before .before .before .before .before .before .before .before .before .before .before .before .lowest .ensures) (c .before .before .before .before .before .before .before .before .before .before .before .before .before .before .before .before .before .before .if1 .left) (c .before .before .before .before .before .before .before .before .before .before .before .before .before .before .before .before .before .before .before .before .before .before .before .before .before .before .before .pre .1 .1)) in
+    omega (arith, opened-count z _ (c .before .before .before .before .before .before .before .before .before .before .before .before .before .before .before .before .before .place-of .result) h (c .before .before .before .before .before .open-at .ensures), c .before .before .before .before .before .before .before .before .before .before .before .before .before .before .before .before .before .before .before .before .before .before .before .before .before .before .before .pre .0)
+
+-- src/lib.rt:124:1
+same-length-2 : tie.Need-same-length-2
+same-length-2 c = search needs
+
+-- src/lib.rt:124:1
+same-length-3 : tie.Need-same-length-3
+same-length-3 c = search needs
+
+-- src/lib.rt:124:1
+same-length-4 : tie.Need-same-length-4
+same-length-4 c = search needs
+
+-- src/lib.rt:124:1
 returns-2 : tie.Need-returns-2
 returns-2 c =
-    let a = c .before .before .before .before .before .before .before .before .before .before .before .before .before .before .before .before .before .before .before .args in
+    let a = c .before .before .before .before .before .before .before .before .before .before .before .before .before .before .before .before .before .before .before .before .before .before .before .before .before .before .before .before .before .before .before .before .before .before .args in
     let z = a .zone .now in
-    let s = stateOf (a .run .state) in
-    let r = c .before .before .before .before .before .before .before .before .before .before .before .before .before .before .before .lowest .result .0 in
-    let h : c .before .before .before .before .before .before .before .before .before .before .before .before .place-of .result < length z = omega (arith, c .before .before .before .before .before .before .before .before .before .before .before .before .place-of .ensures, ends-goal s (stateOf (a .goals)) z r (c .before .before .before .before .before .before .before .before .before .before .before .before .before .before .before .lowest .ensures) (c .before .before .before .before .before .before .before .before .before .before .before .before .before .if1 .left) (c .before .before .before .before .before .before .before .before .before .before .before .before .before .before .before .before .before .before .before .pre .1 .1)) in
-    c .before .before .end .ensures
-    ∙ end-both (worldOf (a .run) (a .out .now)) _ (stateOf (a .goals)) z _ r (c .before .before .before .before .before .before .before .before .before .before .before .before .place-of .result) (c .before .before .before .before .before .before .before .before .before .before .before .before .before .before .before .before .before .before .before .pre .1 .0) (length-map (a .run .state .robots) robotNo ∙ search (needs, length-mapped, c .before .before .before .before .before .before .before .before .before .before .before .before .before .before .before .before .s .given, c .before .before .before .before .before .before .before .before .before .before .before .before .before .before .before .before .before .before .before .good))
-    (sym (c .before .before .before .before .before .before .before .before .before .before .before .before .before .before .before .lowest .ensures) ∙ cell-of (c .before .before .before .before .before .before .before .before .before .before .before .before .before .if1 .left)) h (c .before .before .before .before .before .before .before .before .before .before .before .before .place-of .ensures) (ends-stands s (stateOf (a .goals)) z r (c .before .before .before .before .before .before .before .before .before .before .before .before .before .before .before .lowest .ensures) (c .before .before .before .before .before .before .before .before .before .before .before .before .before .if1 .left))
-    (c .before .before .before .before .before .before .open-at .ensures) (c .before .before .before .before .before .before .before .before .before .before .push-to .ensures)
+    let s = onVertices (a .robots .now) in
+    let r = c .before .before .before .before .before .before .before .before .before .before .before .before .before .before .before .before .before .before .before .before .before .before .before .before .before .before .before .lowest .result .0 in
+    let h : c .before .before .before .before .before .before .before .before .before .before .before .before .before .before .before .before .before .before .before .before .before .before .before .before .place-of .result < length z = omega (arith, c .before .before .before .before .before .before .before .before .before .before .before .before .before .before .before .before .before .before .before .before .before .before .before .before .place-of .ensures, ends-goal s (onVertices (a .goals .now)) z r (c .before .before .before .before .before .before .before .before .before .before .before .before .before .before .before .before .before .before .before .before .before .before .before .before .before .before .before .lowest .ensures) (c .before .before .before .before .before .before .before .before .before .before .before .before .before .before .before .before .before .before .before .before .before .before .before .before .before .if1 .left) (c .before .before .before .before .before .before .before .before .before .before .before .before .before .before .before .before .before .before .before .before .before .before .before .before .before .before .before .before .before .before .before .before .before .before .pre .1 .1)) in
+    c .before .before .before .before .before .before .end .ensures
+    ∙ end-both (worldIn (a .robots .now) (a .vertices .now) (a .count) (a .out .now)) _ (onVertices (a .goals .now)) z _ r (c .before .before .before .before .before .before .before .before .before .before .before .before .before .before .before .before .before .before .before .before .before .before .before .before .place-of .result) (c .before .before .before .before .before .before .before .before .before .before .before .before .before .before .before .before .before .before .before .before .before .before .before .before .before .before .before .before .before .before .before .before .before .before .pre .1 .0)
+    (sym (c .before .before .before .before .before .before .before .before .before .before .before .before .before .before .before .before .before .before .before .before .before .before .before .before .before .before .before .lowest .ensures) ∙ cell-of (c .before .before .before .before .before .before .before .before .before .before .before .before .before .before .before .before .before .before .before .before .before .before .before .before .before .if1 .left)) h (c .before .before .before .before .before .before .before .before .before .before .before .before .before .before .before .before .before .before .before .before .before .before .before .before .place-of .ensures) (ends-stands s (onVertices (a .goals .now)) z r (c .before .before .before .before .before .before .before .before .before .before .before .before .before .before .before .before .before .before .before .before .before .before .before .before .before .before .before .lowest .ensures) (c .before .before .before .before .before .before .before .before .before .before .before .before .before .before .before .before .before .before .before .before .before .before .before .before .before .if1 .left))
+    (c .before .before .before .before .before .before .before .before .before .before .before .before .open-at .ensures) (c .before .before .before .before .before .before .before .before .before .before .before .before .before .before .before .before .before .before .before .before .push-to .ensures)
 
 pub end-spec : {M : Type 1} → statement M
 end-spec =
     tie.close
     (tie.spec
     lowest-requires
+    same-length
     returns
     place-of-requires
     push-to-requires
@@ -110,5 +124,7 @@ end-spec =
     array-share-prefix-others
     slice-aggregate-end
     end-requires
-    same-length
+    same-length-2
+    same-length-3
+    same-length-4
     returns-2)

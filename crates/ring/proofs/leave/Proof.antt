@@ -2,8 +2,8 @@ use borrow.Author.Needs.{needs}
 use native.Mathlib.Omega.{arith}
 use mathlib.Core.Path.{ap, _∙_}
 use Rattle.spec.specs.State.{arrangementOf, across}
-use Rattle.motion.specs.States.{stateOf}
-use Rattle.motion.specs.World.{worldOf, madeAll}
+use Rattle.motion.specs.Tables.{onVertices}
+use Rattle.motion.specs.World.{worldIn, madeAll}
 use Rattle.motion.specs.Across.{arrangement-length}
 use Rattle.ring.specs.Pushes.{leaves-to}
 use Rattle.ring.specs.Reading.{leave-inside}
@@ -13,23 +13,31 @@ use Rattle.ring.proofs.leave.Reads as reads
 use Rattle.ring.proofs.leave.Lts as lts
 use Rattle.ring.proofs.pushing.push_to.Reads as push-to-reads
 
--- src/lib.rt:52:5
+-- src/lib.rt:67:5
 push-to-requires : tie.Need-push-to-requires
 push-to-requires c κs =
-    let a = c .before .before .before .args in
-    let s = stateOf (a .run .state) in
-    (search needs, (c .before .before .before .pre .1 .0, omega (arith, leave-inside (arrangementOf s (a .zone .now)) (a .r .0) (a .j) (c .before .before .before .pre .1 .1), arrangement-length s (a .zone .now))))
+    let a = c .before .before .before .before .before .before .before .args in
+    let s = onVertices (a .robots .now) in
+    (search needs, (c .before .before .before .before .before .before .before .pre .1 .0, omega (arith, leave-inside (arrangementOf s (a .zone .now)) (a .r .0) (a .j) (c .before .before .before .before .before .before .before .pre .1 .1), arrangement-length s (a .zone .now))))
 
--- src/lib.rt:46:1
+-- src/lib.rt:53:1
 same-length : tie.Need-same-length
 same-length c = search needs
 
--- src/lib.rt:46:1
+-- src/lib.rt:53:1
+same-length-2 : tie.Need-same-length-2
+same-length-2 c = search needs
+
+-- src/lib.rt:53:1
+same-length-3 : tie.Need-same-length-3
+same-length-3 c = search needs
+
+-- src/lib.rt:53:1
 returns : tie.Need-returns
 returns c =
-    let a = c .before .before .before .before .before .before .args in
-    c .before .before .push-to .ensures
-    ∙ ap (λ ms. madeAll (worldOf (a .run) (a .out .now)) (across (a .zone .now) ms)) (leaves-to (arrangementOf (stateOf (a .run .state)) (a .zone .now)) (a .r .0) (a .j))
+    let a = c .before .before .before .before .before .before .before .before .before .before .before .before .before .before .args in
+    c .before .before .before .before .before .before .push-to .ensures
+    ∙ ap (λ ms. madeAll (worldIn (a .robots .now) (a .vertices .now) (a .count) (a .out .now)) (across (a .zone .now) ms)) (leaves-to (arrangementOf (onVertices (a .robots .now)) (a .zone .now)) (a .r .0) (a .j))
 
 pub leave-spec : {M : Type 1} → statement M
-leave-spec = tie.close (tie.spec push-to-requires same-length returns)
+leave-spec = tie.close (tie.spec push-to-requires same-length same-length-2 same-length-3 returns)

@@ -4,7 +4,7 @@ use mathlib.Core.Path.{_≡_, refl, _∙_}
 use lib.ListN.{length, drop}
 use Rattle.spec.specs.Outcome.{sameList}
 use Rattle.spec.specs.State.{arrangementOf}
-use Rattle.motion.specs.States.{stateOf}
+use Rattle.motion.specs.Tables.{onVertices}
 use Rattle.ring.specs.Comparing.{cells-on, cells-differ, cells-over}
 use Rattle.ring.proofs.comparing.same_cells.Statement.{statement}
 use Rattle.ring.proofs.comparing.same_cells.Tie as tie
@@ -13,53 +13,53 @@ use Rattle.ring.proofs.comparing.same_cells.Lts as lts
 use Rattle.ring.proofs.reading.robot_at.Reads as robot-at-reads
 
 abbrev Inv-loop : tie.InvT-loop
-Inv-loop s goals zone i₀ i =
+Inv-loop robots goals zone i₀ i =
     (i ≤ length zone)
-    × (sameList (drop i (arrangementOf (stateOf s) zone)) (drop i (arrangementOf (stateOf goals) zone)) ≡ sameList (arrangementOf (stateOf s) zone) (arrangementOf (stateOf goals) zone))
+    × (sameList (drop i (arrangementOf (onVertices robots) zone)) (drop i (arrangementOf (onVertices goals) zone)) ≡ sameList (arrangementOf (onVertices robots) zone) (arrangementOf (onVertices goals) zone))
 
 abbrev μ-loop : tie.MeasureT-loop
-μ-loop s goals zone i₀ i = length zone - i
+μ-loop robots goals zone i₀ i = length zone - i
 
--- src/comparing.rt:22:5
+-- src/comparing.rt:21:5
 loop-holds : tie.Need-loop-holds Inv-loop μ-loop
 loop-holds c = (search needs, refl)
 
--- src/comparing.rt:23:13
+-- src/comparing.rt:22:13
 robot-at-requires : tie.Need-robot-at-requires Inv-loop μ-loop
 robot-at-requires c κs = search needs
 
--- src/comparing.rt:24:13
+-- src/comparing.rt:23:13
 robot-at-requires-2 : tie.Need-robot-at-requires-2 Inv-loop μ-loop
 robot-at-requires-2 c κs = search needs
 
--- src/comparing.rt:26:13
+-- src/comparing.rt:25:13
 returns : tie.Need-returns Inv-loop μ-loop
 returns c =
-    let a = c .before .before .before .before .before .before .before .before .args in
+    let a = c .before .before .before .before .before .before .before .before .before .before .args in
     let o = c .before .before .before .before .before .before .loop in
-    cells-differ (stateOf (a .s)) (stateOf (a .goals)) (a .zone .now) (o .i) (c .before .before .before .before .robot-at .result .0) (c .before .before .before .robot-at2 .result .0) (search needs) (c .before .before .before .before .robot-at .ensures) (c .before .before .before .robot-at2 .ensures) (c .if1 .taken) ∙ o .inv .1
+    cells-differ (onVertices (a .robots .now)) (onVertices (a .goals .now)) (a .zone .now) (o .i) (c .before .before .before .before .robot-at .result .0) (c .before .before .before .robot-at2 .result .0) (search needs) (c .before .before .before .before .robot-at .ensures) (c .before .before .before .robot-at2 .ensures) (c .if1 .taken) ∙ o .inv .1
 
--- src/comparing.rt:28:9
+-- src/comparing.rt:27:9
 add-i : tie.Need-add-i Inv-loop μ-loop
 add-i c = search needs
 
--- src/comparing.rt:22:5
+-- src/comparing.rt:21:5
 loop-less : tie.Need-loop-less Inv-loop μ-loop
 loop-less c = search needs
 
--- src/comparing.rt:22:5
+-- src/comparing.rt:21:5
 loop-again : tie.Need-loop-again Inv-loop μ-loop
 loop-again c =
-    let a = c .before .before .before .before .before .before .before .before .args in
+    let a = c .before .before .before .before .before .before .before .before .before .before .args in
     let o = c .before .before .before .before .before .before .loop in
-    (search needs, cells-on (stateOf (a .s)) (stateOf (a .goals)) (a .zone .now) (o .i) (c .before .before .before .before .robot-at .result .0) (c .before .before .before .robot-at2 .result .0) (search needs) (c .before .before .before .before .robot-at .ensures) (c .before .before .before .robot-at2 .ensures) (c .if1 .left) ∙ o .inv .1)
+    (search needs, cells-on (onVertices (a .robots .now)) (onVertices (a .goals .now)) (a .zone .now) (o .i) (c .before .before .before .before .robot-at .result .0) (c .before .before .before .robot-at2 .result .0) (search needs) (c .before .before .before .before .robot-at .ensures) (c .before .before .before .robot-at2 .ensures) (c .if1 .left) ∙ o .inv .1)
 
--- src/comparing.rt:18:1
+-- src/comparing.rt:17:1
 returns-2 : tie.Need-returns-2 Inv-loop μ-loop
 returns-2 c =
-    let a = c .before .before .before .args in
+    let a = c .before .before .before .before .before .args in
     let o = c .before .loop in
-    cells-over (stateOf (a .s)) (stateOf (a .goals)) (a .zone .now) (o .i) (search needs) ∙ o .inv .1
+    cells-over (onVertices (a .robots .now)) (onVertices (a .goals .now)) (a .zone .now) (o .i) (search needs) ∙ o .inv .1
 
 pub same-cells-spec : {M : Type 1} → statement M
 same-cells-spec =

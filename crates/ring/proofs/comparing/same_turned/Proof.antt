@@ -3,7 +3,7 @@ use native.Mathlib.Omega.{arith}
 use mathlib.Core.Path.{_≡_, sym, _∙_}
 use lib.ListN.{length}
 use Rattle.spec.specs.State.{arrangementOf}
-use Rattle.motion.specs.States.{stateOf}
+use Rattle.motion.specs.Tables.{onVertices}
 use Rattle.motion.specs.Across.{arrangement-length}
 use Prim.Native.Nat.{suc}
 use Rattle.ring.specs.Reading.{seek-within}
@@ -12,58 +12,59 @@ use Rattle.ring.proofs.comparing.same_turned.Statement.{statement}
 use Rattle.ring.proofs.comparing.same_turned.Tie as tie
 use Rattle.ring.proofs.comparing.same_turned.Reads as reads
 use Rattle.ring.proofs.comparing.same_turned.Lts as lts
+use Rattle.motion.proofs.place_of.Reads as place-of-reads
 use Rattle.ring.proofs.comparing.same_round.Reads as same-round-reads
 use Rattle.ring.proofs.comparing.taken_from.Reads as taken-from-reads
 use Rattle.ring.proofs.reading.is_vacant.Reads as is-vacant-reads
 use Rattle.ring.proofs.reading.robot_at.Reads as robot-at-reads
 
--- src/comparing.rt:83:9
+-- src/comparing.rt:82:9
 taken-from-requires : tie.Need-taken-from-requires
 taken-from-requires c κs = search needs
 
--- src/comparing.rt:85:9
+-- src/comparing.rt:84:9
 is-vacant-requires : tie.Need-is-vacant-requires
 is-vacant-requires c κs = search needs
 
--- src/comparing.rt:85:9
+-- src/comparing.rt:84:9
 returns : tie.Need-returns
 returns c =
-    let a = c .before .before .before .before .args in
+    let a = c .before .before .before .before .before .before .args in
     let z = a .zone .now in
     c .is-vacant .ensures
-    ∙ turned-none (arrangementOf (stateOf (a .s)) z) (arrangementOf (stateOf (a .goals)) z) (first-none (stateOf (a .s)) z (search needs) (c .before .before .taken-from .result) (c .before .before .taken-from .ensures) (c .before .if1 .taken))
+    ∙ turned-none (arrangementOf (onVertices (a .robots .now)) z) (arrangementOf (onVertices (a .goals .now)) z) (first-none (onVertices (a .robots .now)) z (search needs) (c .before .before .taken-from .result) (c .before .before .taken-from .ensures) (c .before .if1 .taken))
 
--- src/comparing.rt:87:9
+-- src/comparing.rt:86:9
 robot-at-requires : tie.Need-robot-at-requires
 robot-at-requires c κs = search needs
 
--- src/comparing.rt:88:9
+-- src/comparing.rt:87:9
 place-of-requires : tie.Need-place-of-requires
 place-of-requires c κs = search needs
 
--- src/comparing.rt:90:9
+-- src/comparing.rt:89:9
 returns-2 : tie.Need-returns-2
 returns-2 c =
-    let a = c .before .before .before .before .before .before .args in
+    let a = c .before .before .before .before .before .before .before .before .args in
     let z = a .zone .now in
-    turned-out (arrangementOf (stateOf (a .s)) z) (arrangementOf (stateOf (a .goals)) z) (c .before .before .robot-at .result .0) (c .before .place-of .result) _
-    (first-robot (stateOf (a .s)) z (search needs) (c .before .before .before .before .taken-from .result) (c .before .before .robot-at .result .0) (c .before .before .before .before .taken-from .ensures) (c .before .before .before .if1 .left) (c .before .before .robot-at .ensures))
-    (c .before .place-of .ensures) (c .if2 .taken ∙ sym (arrangement-length (stateOf (a .goals)) z))
+    turned-out (arrangementOf (onVertices (a .robots .now)) z) (arrangementOf (onVertices (a .goals .now)) z) (c .before .before .robot-at .result .0) (c .before .place-of .result) _
+    (first-robot (onVertices (a .robots .now)) z (search needs) (c .before .before .before .before .taken-from .result) (c .before .before .robot-at .result .0) (c .before .before .before .before .taken-from .ensures) (c .before .before .before .if1 .left) (c .before .before .robot-at .ensures))
+    (c .before .place-of .ensures) (c .if2 .taken ∙ sym (arrangement-length (onVertices (a .goals .now)) z))
 
--- src/comparing.rt:92:5
+-- src/comparing.rt:91:5
 same-round-requires : tie.Need-same-round-requires
 same-round-requires c κs =
-    let a = c .before .before .before .before .before .before .args in
-    omega (arith, c .if2 .left, c .before .place-of .ensures, seek-within (suc (c .before .before .robot-at .result .0)) (arrangementOf (stateOf (a .goals)) (a .zone .now)), arrangement-length (stateOf (a .goals)) (a .zone .now))
+    let a = c .before .before .before .before .before .before .before .before .args in
+    omega (arith, c .if2 .left, c .before .place-of .ensures, seek-within (suc (c .before .before .robot-at .result .0)) (arrangementOf (onVertices (a .goals .now)) (a .zone .now)), arrangement-length (onVertices (a .goals .now)) (a .zone .now))
 
--- src/comparing.rt:78:1
+-- src/comparing.rt:77:1
 returns-3 : tie.Need-returns-3
 returns-3 c =
-    let a = c .before .before .before .before .before .before .before .args in
+    let a = c .before .before .before .before .before .before .before .before .before .args in
     let z = a .zone .now in
     c .same-round .ensures
-    ∙ turned-from (arrangementOf (stateOf (a .s)) z) (arrangementOf (stateOf (a .goals)) z) (c .before .before .before .robot-at .result .0) (c .before .before .place-of .result) _
-    (first-robot (stateOf (a .s)) z (search needs) (c .before .before .before .before .before .taken-from .result) (c .before .before .before .robot-at .result .0) (c .before .before .before .before .before .taken-from .ensures) (c .before .before .before .before .if1 .left) (c .before .before .before .robot-at .ensures))
+    ∙ turned-from (arrangementOf (onVertices (a .robots .now)) z) (arrangementOf (onVertices (a .goals .now)) z) (c .before .before .before .robot-at .result .0) (c .before .before .place-of .result) _
+    (first-robot (onVertices (a .robots .now)) z (search needs) (c .before .before .before .before .before .taken-from .result) (c .before .before .before .robot-at .result .0) (c .before .before .before .before .before .taken-from .ensures) (c .before .before .before .before .if1 .left) (c .before .before .before .robot-at .ensures))
     (c .before .before .place-of .ensures)
 
 pub same-turned-spec : {M : Type 1} → statement M

@@ -6,7 +6,7 @@ use lib.ListN.{length, getD, drop}
 use Rattle.spec.specs.Arrangement.{order}
 use Rattle.spec.specs.Ring.{frame}
 use Rattle.spec.specs.State.{robotOn, arrangementOf}
-use Rattle.motion.specs.States.{stateOf}
+use Rattle.motion.specs.Tables.{onVertices}
 use Rattle.ring.specs.Comparing.{taken-on, taken-here, taken-over}
 use Rattle.ring.proofs.comparing.taken_from.Statement.{statement}
 use Rattle.ring.proofs.comparing.taken_from.Tie as tie
@@ -16,60 +16,60 @@ use Rattle.ring.proofs.places.around.Reads as around-reads
 use Rattle.ring.proofs.reading.robot_at.Reads as robot-at-reads
 
 abbrev Inv-loop : tie.InvT-loop
-Inv-loop s zone p k m i₀ i =
+Inv-loop robots zone p k m i₀ i =
     (m ≡ length zone) × (i ≤ length zone)
-    × (order (drop i (frame p (arrangementOf (stateOf s) zone))) ≡ order (drop k (frame p (arrangementOf (stateOf s) zone))))
+    × (order (drop i (frame p (arrangementOf (onVertices robots) zone))) ≡ order (drop k (frame p (arrangementOf (onVertices robots) zone))))
 
 abbrev μ-loop : tie.MeasureT-loop
-μ-loop s zone p k m i₀ i = length zone - i
+μ-loop robots zone p k m i₀ i = length zone - i
 
--- src/comparing.rt:40:5
+-- src/comparing.rt:39:5
 loop-holds : tie.Need-loop-holds Inv-loop μ-loop
 loop-holds c = (refl, search needs, refl)
 
--- src/comparing.rt:41:35
+-- src/comparing.rt:40:40
 around-requires : tie.Need-around-requires Inv-loop μ-loop
 around-requires c κs = search needs
 
--- src/comparing.rt:41:13
+-- src/comparing.rt:40:13
 robot-at-requires : tie.Need-robot-at-requires Inv-loop μ-loop
 robot-at-requires c κs = search needs
 
--- src/comparing.rt:43:13
+-- src/comparing.rt:42:13
 returns : tie.Need-returns Inv-loop μ-loop
 returns c =
-    let a = c .before .before .before .before .before .before .before .args in
+    let a = c .before .before .before .before .before .before .before .before .args in
     let o = c .before .before .before .before .before .loop in
     let z = a .zone .now in
-    taken-here (stateOf (a .s)) z (a .p) (search needs) (a .k) (o .i) (c .before .before .robot-at .result .0) (omega arith)
-    (c .before .before .robot-at .ensures ∙ ap (λ (i : ℕ). robotOn (stateOf (a .s)) (getD z i 0)) (c .before .before .before .around .ensures)) (c .if1 .taken) (o .inv .2)
+    taken-here (onVertices (a .robots .now)) z (a .p) (search needs) (a .k) (o .i) (c .before .before .robot-at .result .0) (omega arith)
+    (c .before .before .robot-at .ensures ∙ ap (λ (i : ℕ). robotOn (onVertices (a .robots .now)) (getD z i 0)) (c .before .before .before .around .ensures)) (c .if1 .taken) (o .inv .2)
 
--- src/comparing.rt:45:9
+-- src/comparing.rt:44:9
 add-i : tie.Need-add-i Inv-loop μ-loop
 add-i c = search needs
 
--- src/comparing.rt:40:5
+-- src/comparing.rt:39:5
 loop-less : tie.Need-loop-less Inv-loop μ-loop
 loop-less c = search needs
 
--- src/comparing.rt:40:5
+-- src/comparing.rt:39:5
 loop-again : tie.Need-loop-again Inv-loop μ-loop
 loop-again c =
-    let a = c .before .before .before .before .before .before .before .args in
+    let a = c .before .before .before .before .before .before .before .before .args in
     let o = c .before .before .before .before .before .loop in
     let z = a .zone .now in (
       refl,
       omega arith,
-      taken-on (stateOf (a .s)) z (a .p) (search needs) (a .k) (o .i) (c .before .before .robot-at .result .0) (omega arith)
-          (c .before .before .robot-at .ensures ∙ ap (λ (i : ℕ). robotOn (stateOf (a .s)) (getD z i 0)) (c .before .before .before .around .ensures)) (c .if1 .left) (o .inv .2),
+      taken-on (onVertices (a .robots .now)) z (a .p) (search needs) (a .k) (o .i) (c .before .before .robot-at .result .0) (omega arith)
+          (c .before .before .robot-at .ensures ∙ ap (λ (i : ℕ). robotOn (onVertices (a .robots .now)) (getD z i 0)) (c .before .before .before .around .ensures)) (c .if1 .left) (o .inv .2),
     )
 
--- src/comparing.rt:34:1
+-- src/comparing.rt:33:1
 returns-2 : tie.Need-returns-2 Inv-loop μ-loop
 returns-2 c =
-    let a = c .before .before .before .args in
+    let a = c .before .before .before .before .args in
     let o = c .before .loop in
-    taken-over (stateOf (a .s)) (a .zone .now) (a .p) (search needs) (a .k) (o .i) (omega arith) (o .inv .2)
+    taken-over (onVertices (a .robots .now)) (a .zone .now) (a .p) (search needs) (a .k) (o .i) (omega arith) (o .inv .2)
 
 pub taken-from-spec : {M : Type 1} → statement M
 taken-from-spec =

@@ -5,7 +5,7 @@ use mathlib.Core.Path.{_≡_, refl, ap, _∙_}
 use lib.ListN.{length, drop}
 use Rattle.spec.specs.Arrangement.{order}
 use Rattle.spec.specs.State.{cellOf, arrangementOf}
-use Rattle.motion.specs.States.{stateOf}
+use Rattle.motion.specs.Tables.{onVertices}
 use Rattle.ring.specs.Ending.{lowestCell, lowest-lower, lowest-kept, lowest-none}
 use Rattle.ring.proofs.ending.lowest.Statement.{statement}
 use Rattle.ring.proofs.ending.lowest.Tie as tie
@@ -14,64 +14,64 @@ use Rattle.ring.proofs.ending.lowest.Lts as lts
 use Rattle.ring.proofs.reading.robot_at.Reads as robot-at-reads
 
 abbrev Inv-loop : tie.InvT-loop
-Inv-loop s zone best₀ k₀ best k = (k ≤ length zone) × (best ≤ 255) × (cellOf best ≡ lowestCell (order (drop k (arrangementOf (stateOf s) zone))))
+Inv-loop robots zone best₀ k₀ best k = (k ≤ length zone) × (best ≤ 255) × (cellOf best ≡ lowestCell (order (drop k (arrangementOf (onVertices robots) zone))))
 
 abbrev μ-loop : tie.MeasureT-loop
-μ-loop s zone best₀ k₀ best k = k
+μ-loop robots zone best₀ k₀ best k = k
 
--- src/ending.rt:22:5
+-- src/ending.rt:21:5
 loop-holds : tie.Need-loop-holds Inv-loop μ-loop
-loop-holds c = (search needs, search needs, lowest-none (stateOf (c .before .args .s)) (c .before .args .zone .now) (length (c .before .args .zone .now)) 255 (search needs) refl)
+loop-holds c = (search needs, search needs, lowest-none (onVertices (c .before .before .args .robots .now)) (c .before .before .args .zone .now) (length (c .before .before .args .zone .now)) 255 (search needs) refl)
 
--- src/ending.rt:23:9
+-- src/ending.rt:22:9
 sub-k : tie.Need-sub-k Inv-loop μ-loop
 sub-k c = search needs
 
--- src/ending.rt:24:13
+-- src/ending.rt:23:13
 robot-at-requires : tie.Need-robot-at-requires Inv-loop μ-loop
 robot-at-requires c κs = search needs
 
--- src/ending.rt:22:5
+-- src/ending.rt:21:5
 loop-less : tie.Need-loop-less Inv-loop μ-loop
 loop-less c = search needs
 
--- src/ending.rt:22:5
+-- src/ending.rt:21:5
 loop-again : tie.Need-loop-again Inv-loop μ-loop
 loop-again c =
-    let a = c .before .before .before .before .before .before .args in
+    let a = c .before .before .before .before .before .before .before .args in
     let o = c .before .before .before .before .loop in
     let k = o .k - 1 in
     let n : o .k ≡ k + 1 = omega arith in (
       omega arith,
       omega arith,
-      lowest-lower (stateOf (a .s)) (a .zone .now) k (c .before .before .robot-at .result .0) (o .best) (omega arith) (c .before .before .robot-at .ensures) (c .if1 .taken) (o .inv .1)
-          (o .inv .2 ∙ ap (λ (i : ℕ). lowestCell (order (drop i (arrangementOf (stateOf (a .s)) (a .zone .now))))) n),
+      lowest-lower (onVertices (a .robots .now)) (a .zone .now) k (c .before .before .robot-at .result .0) (o .best) (omega arith) (c .before .before .robot-at .ensures) (c .if1 .taken) (o .inv .1)
+          (o .inv .2 ∙ ap (λ (i : ℕ). lowestCell (order (drop i (arrangementOf (onVertices (a .robots .now)) (a .zone .now))))) n),
     )
 
--- src/ending.rt:22:5
+-- src/ending.rt:21:5
 loop-less-2 : tie.Need-loop-less-2 Inv-loop μ-loop
 loop-less-2 c = search needs
 
--- src/ending.rt:22:5
+-- src/ending.rt:21:5
 loop-again-2 : tie.Need-loop-again-2 Inv-loop μ-loop
 loop-again-2 c =
-    let a = c .before .before .before .before .before .before .args in
+    let a = c .before .before .before .before .before .before .before .args in
     let o = c .before .before .before .before .loop in
     let k = o .k - 1 in
     let n : o .k ≡ k + 1 = omega arith in (
       omega arith,
       o .inv .1,
-      lowest-kept (stateOf (a .s)) (a .zone .now) k (c .before .before .robot-at .result .0) (o .best) (omega arith) (c .before .before .robot-at .ensures) (omega (arith, c .if1 .left)) (search needs)
-          (o .inv .2 ∙ ap (λ (i : ℕ). lowestCell (order (drop i (arrangementOf (stateOf (a .s)) (a .zone .now))))) n),
+      lowest-kept (onVertices (a .robots .now)) (a .zone .now) k (c .before .before .robot-at .result .0) (o .best) (omega arith) (c .before .before .robot-at .ensures) (omega (arith, c .if1 .left)) (search needs)
+          (o .inv .2 ∙ ap (λ (i : ℕ). lowestCell (order (drop i (arrangementOf (onVertices (a .robots .now)) (a .zone .now))))) n),
     )
 
--- src/ending.rt:17:1
+-- src/ending.rt:16:1
 returns : tie.Need-returns Inv-loop μ-loop
 returns c =
-    let a = c .before .before .before .args in
+    let a = c .before .before .before .before .args in
     let o = c .before .loop in
     let n : o .k ≡ 0 = omega arith in
-    o .inv .2 ∙ ap (λ (i : ℕ). lowestCell (order (drop i (arrangementOf (stateOf (a .s)) (a .zone .now))))) n
+    o .inv .2 ∙ ap (λ (i : ℕ). lowestCell (order (drop i (arrangementOf (onVertices (a .robots .now)) (a .zone .now))))) n
 
 pub lowest-spec : {M : Type 1} → statement M
 lowest-spec =

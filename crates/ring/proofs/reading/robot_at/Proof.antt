@@ -1,7 +1,7 @@
 use borrow.Author.Needs.{needs}
 use mathlib.Core.Path.{ap, _∙_}
 use Rattle.spec.specs.State.{robotOn}
-use Rattle.motion.specs.States.{stateOf}
+use Rattle.motion.specs.Tables.{onVertices}
 use Rattle.ring.proofs.reading.robot_at.Statement.{statement}
 use Rattle.ring.proofs.reading.robot_at.Tie as tie
 use Rattle.ring.proofs.reading.robot_at.Reads as reads
@@ -9,17 +9,17 @@ use Rattle.ring.proofs.reading.robot_at.Lts as lts
 use Rattle.motion.proofs.robot_on.Reads as robot-on-reads
 use Rattle.motion.proofs.vertex_at.Reads as vertex-at-reads
 
--- src/reading.rt:19:9
+-- src/reading.rt:15:9
 vertex-at-requires : tie.Need-vertex-at-requires
 vertex-at-requires c κs = search needs
 
--- src/reading.rt:20:5
+-- src/reading.rt:16:5
 robot-on-requires : tie.Need-robot-on-requires
 robot-on-requires c κs = search needs
 
--- src/reading.rt:16:1
+-- src/reading.rt:12:1
 returns : tie.Need-returns
-returns c = c .robot-on .ensures ∙ ap (robotOn (stateOf (c .before .before .before .args .s))) (c .before .vertex-at .ensures)
+returns c = c .robot-on .ensures ∙ ap (robotOn (onVertices (c .before .before .before .before .args .robots .now))) (c .before .vertex-at .ensures)
 
 pub robot-at-spec : {M : Type 1} → statement M
 robot-at-spec = tie.close (tie.spec vertex-at-requires robot-on-requires returns)

@@ -6,7 +6,7 @@ use lib.ListN.{length, getD, take}
 use Rattle.spec.specs.Arrangement.{lastNamed}
 use Rattle.spec.specs.Ring.{wrap, opened, ringBehind}
 use Rattle.spec.specs.State.{robotOn, arrangementOf}
-use Rattle.motion.specs.States.{stateOf}
+use Rattle.motion.specs.Tables.{onVertices}
 use Rattle.ring.specs.Places.{previousPlace, wrap-under, wrap-previous}
 use Rattle.ring.specs.Entry.{walk-start, walk-all, walk-free, walk-taken, walk-over}
 use Rattle.ring.proofs.turning.look_back.Statement.{statement}
@@ -17,45 +17,45 @@ use Rattle.ring.proofs.places.previous.Reads as previous-reads
 use Rattle.ring.proofs.reading.robot_at.Reads as robot-at-reads
 
 abbrev Inv-loop : tie.InvT-loop
-Inv-loop s zone j m at₀ k₀ at k =
+Inv-loop robots zone j m at₀ k₀ at k =
     (m ≡ length zone) × (k < length zone) × (at ≡ wrap (length zone) (j + (k + 1)))
-    × (lastNamed (take k (opened j (arrangementOf (stateOf s) zone))) ≡ ringBehind (arrangementOf (stateOf s) zone) j)
+    × (lastNamed (take k (opened j (arrangementOf (onVertices robots) zone))) ≡ ringBehind (arrangementOf (onVertices robots) zone) j)
 
 abbrev μ-loop : tie.MeasureT-loop
-μ-loop s zone j m at₀ k₀ at k = k
+μ-loop robots zone j m at₀ k₀ at k = k
 
--- src/turning.rt:23:17
+-- src/turning.rt:22:17
 sub-k : tie.Need-sub-k Inv-loop μ-loop
 sub-k c = search needs
 
--- src/turning.rt:24:5
+-- src/turning.rt:23:5
 loop-holds : tie.Need-loop-holds Inv-loop μ-loop
 loop-holds c =
-    let a = c .before .args in
-    (refl, search needs, walk-start (stateOf (a .s)) (a .zone .now) (a .j) (search needs), walk-all (stateOf (a .s)) (a .zone .now) (a .j) (search needs))
+    let a = c .before .before .args in
+    (refl, search needs, walk-start (onVertices (a .robots .now)) (a .zone .now) (a .j) (search needs), walk-all (onVertices (a .robots .now)) (a .zone .now) (a .j) (search needs))
 
--- src/turning.rt:25:9
+-- src/turning.rt:24:9
 previous-requires : tie.Need-previous-requires Inv-loop μ-loop
 previous-requires c κs =
-    let a = c .before .before .before .args in
+    let a = c .before .before .before .before .args in
     let o = c .before .loop in
     omega (arith, wrap-under (length (a .zone .now)) (a .j) (o .k + 1) (search needs) (omega arith))
 
--- src/turning.rt:26:9
+-- src/turning.rt:25:9
 sub-k-2 : tie.Need-sub-k-2 Inv-loop μ-loop
 sub-k-2 c = search needs
 
--- src/turning.rt:27:13
+-- src/turning.rt:26:13
 robot-at-requires : tie.Need-robot-at-requires Inv-loop μ-loop
 robot-at-requires c κs = search needs
 
--- src/turning.rt:29:13
+-- src/turning.rt:28:13
 returns : tie.Need-returns Inv-loop μ-loop
 returns c =
-    let a = c .before .before .before .before .before .before .before .args in
+    let a = c .before .before .before .before .before .before .before .before .args in
     let o = c .before .before .before .before .before .loop in
     let z = a .zone .now in
-    let s = stateOf (a .s) in
+    let s = onVertices (a .robots .now) in
     let h : a .j < length z = search needs in
     let k = o .k - 1 in
     let l : k + 1 < length z = omega arith in
@@ -65,17 +65,17 @@ returns c =
     walk-taken s z (a .j) h k (c .before .before .robot-at .result .0) (c .before .before .before .previous .result) l d (c .before .before .robot-at .ensures) (c .if1 .taken)
     (ap (λ (i : ℕ). lastNamed (take i (opened (a .j) (arrangementOf s z)))) n ∙ o .inv .3)
 
--- src/turning.rt:24:5
+-- src/turning.rt:23:5
 loop-less : tie.Need-loop-less Inv-loop μ-loop
 loop-less c = search needs
 
--- src/turning.rt:24:5
+-- src/turning.rt:23:5
 loop-again : tie.Need-loop-again Inv-loop μ-loop
 loop-again c =
-    let a = c .before .before .before .before .before .before .before .args in
+    let a = c .before .before .before .before .before .before .before .before .args in
     let o = c .before .before .before .before .before .loop in
     let z = a .zone .now in
-    let s = stateOf (a .s) in
+    let s = onVertices (a .robots .now) in
     let h : a .j < length z = search needs in
     let k = o .k - 1 in
     let l : k + 1 < length z = omega arith in
@@ -89,12 +89,12 @@ loop-again c =
           ∙ ap (λ (i : ℕ). lastNamed (take i (opened (a .j) (arrangementOf s z)))) n ∙ o .inv .3,
     )
 
--- src/turning.rt:17:1
+-- src/turning.rt:16:1
 returns-2 : tie.Need-returns-2 Inv-loop μ-loop
 returns-2 c =
-    let a = c .before .before .before .args in
+    let a = c .before .before .before .before .args in
     let o = c .before .loop in
-    walk-over (stateOf (a .s)) (a .zone .now) (a .j) (search needs) (o .k) (omega arith) (o .inv .3)
+    walk-over (onVertices (a .robots .now)) (a .zone .now) (a .j) (search needs) (o .k) (omega arith) (o .inv .3)
 
 pub look-back-spec : {M : Type 1} → statement M
 look-back-spec =
