@@ -5,5 +5,6 @@ pub mod Pushes
 pub mod Reading
 pub mod Entry
 pub mod Turns
+pub mod Steps
 pub mod Comparing
 pub mod Ending

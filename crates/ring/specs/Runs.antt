@@ -34,12 +34,12 @@ unfolding frame
 frame-length a p h = length-append (drop p a) (take p a) ∙ omega (arith, length-drop p a, length-take-le p a (omega arith))
 
 -- a taken place is one robot more of the run
-run-taken : (f : Arrangement) (k r : ℕ) → k < length f → getD f k 0 ≡ suc r → run (drop k f) ≡ r ∷ run (drop (k + 1) f)
+pub run-taken : (f : Arrangement) (k r : ℕ) → k < length f → getD f k 0 ≡ suc r → run (drop k f) ≡ r ∷ run (drop (k + 1) f)
 unfolding run
 run-taken f k r h e = rw (drop-cons f k 0 h, e, add-one k)
 
 -- at an empty place the run ends
-run-free : (f : Arrangement) (k : ℕ) → k < length f → getD f k 0 ≡ 0 → run (drop k f) ≡ []
+pub run-free : (f : Arrangement) (k : ℕ) → k < length f → getD f k 0 ≡ 0 → run (drop k f) ≡ []
 unfolding run
 run-free f k h e = rw (drop-cons f k 0 h, e)
 

@@ -33,26 +33,26 @@ unfolding entryOpen turnPlace
 turnAt a j named = elim (entryOpen a j named) [ true ↦ length a | false ↦ turnPlace a j ]
 
 -- the place is taken: its robot is pushed
-turn-taken : (a : Arrangement) (j named r : ℕ) → cell a j ≡ suc r → (entryOpen a j named ≡ false) × (turnPlace a j ≡ j)
+pub turn-taken : (a : Arrangement) (j named r : ℕ) → cell a j ≡ suc r → (entryOpen a j named ≡ false) × (turnPlace a j ≡ j)
 unfolding entryOpen turnPlace _&&_
 turn-taken a j named r e =
     let d : eqb (cell a j) 0 ≡ false = ne-eqb (cell a j) 0 (λ q. omega arith) in
     (ap (λ b. b && eqb (ringBehind a j) named) d, ap (λ (b : Bool). elim b as (λ b. ℕ) [ true ↦ seek (suc (ringBehind a j)) a | false ↦ j ]) d)
 
 -- the place is empty: the robot behind it decides
-turn-free : (a : Arrangement) (j named : ℕ) → cell a j ≡ 0 → (entryOpen a j named ≡ eqb (ringBehind a j) named) × (turnPlace a j ≡ seek (suc (ringBehind a j)) a)
+pub turn-free : (a : Arrangement) (j named : ℕ) → cell a j ≡ 0 → (entryOpen a j named ≡ eqb (ringBehind a j) named) × (turnPlace a j ≡ seek (suc (ringBehind a j)) a)
 unfolding entryOpen turnPlace _&&_
 turn-free a j named e =
     let d : eqb (cell a j) 0 ≡ true = eq-eqb (cell a j) 0 e in
     (ap (λ b. b && eqb (ringBehind a j) named) d, ap (λ (b : Bool). elim b as (λ b. ℕ) [ true ↦ seek (suc (ringBehind a j)) a | false ↦ j ]) d)
 
 -- no push where the place is ready
-turn-open : (a : Arrangement) (j named : ℕ) → entryOpen a j named ≡ true → turnAt a j named ≡ length a
+pub turn-open : (a : Arrangement) (j named : ℕ) → entryOpen a j named ≡ true → turnAt a j named ≡ length a
 unfolding turnAt
 turn-open a j named e = rw (e, turnAt)
 
 -- else the push begins at its place
-turn-shut : (a : Arrangement) (j named : ℕ) → entryOpen a j named ≡ false → turnAt a j named ≡ turnPlace a j
+pub turn-shut : (a : Arrangement) (j named : ℕ) → entryOpen a j named ≡ false → turnAt a j named ≡ turnPlace a j
 unfolding turnAt
 turn-shut a j named e = rw (e, turnAt)
 

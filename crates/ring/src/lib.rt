@@ -35,8 +35,10 @@ pub use places::next;
 pub use places::previous;
 pub use pushing::push;
 use pushing::push_to;
+use pushing::step;
 use reading::is_vacant;
 pub use turning::behind;
+use turning::goes_on;
 use turning::turn_place;
 
 // Can robot r leave at place j: anywhere, but in a full ring only where it stands.
@@ -81,7 +83,7 @@ pub fn can_enter(robots: &[u8], zone: &[u8], j: usize, behind: u8) -> bool
 }
 
 // "Entering: while to is taken or the cart behind isn't the named one, push the cart on to, or if to is empty the first
-// behind it": place j is made ready.
+// behind it": place j is made ready. A robot that goes on alone from behind is the first behind still.
 pub fn enter(
     robots: &mut [u8],
     vertices: &mut [u8],
@@ -98,13 +100,19 @@ pub fn enter(
     let m = zone.len();
     let mut count = count;
     let mut left = m * m;
+    let mut p = turn_place(robots, zone, j, behind);
     while 0 < left {
-        let p = turn_place(robots, zone, j, behind);
         if p == m {
             return count;
         }
-        count = push(robots, vertices, count, zone, p, out);
         left -= 1;
+        if goes_on(robots, zone, j, p) {
+            count = step(robots, vertices, count, zone, p, out);
+            p = next(m, p);
+        } else {
+            count = push(robots, vertices, count, zone, p, out);
+            p = turn_place(robots, zone, j, behind);
+        }
     }
     count
 }

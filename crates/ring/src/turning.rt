@@ -7,6 +7,8 @@ ghost use Rattle.spec.specs.State.{arrangementOf};
 ghost use Rattle.motion.specs.Tables.{onVertices};
 ghost use Rattle.ring.specs.Entry.{Behind};
 ghost use Rattle.ring.specs.Turns.{turnAt};
+ghost use Rattle.ring.specs.Steps.{goesOn};
+use crate::places::next;
 use crate::places::previous;
 use crate::reading::robot_at;
 use motion::place_of;
@@ -59,4 +61,16 @@ pub fn turn_place(robots: &[u8], zone: &[u8], j: usize, named: u8) -> usize
         return zone.len();
     }
     place_of(robots, zone, Robot(b))
+}
+
+// Does the robot pushed from place p go on alone: p is not place j, and nobody stands on the place after it.
+pub fn goes_on(robots: &[u8], zone: &[u8], j: usize, p: usize) -> bool
+    requires { ⌜ p < length (now zone) ⌝ }
+    ensures { λ b. ⌜ b ≡ goesOn (arrangementOf (onVertices (now (robots .entry))) (now (zone .entry))) j p ⌝ }
+{
+    if p == j {
+        return false;
+    }
+    let x = robot_at(robots, zone, next(zone.len(), p));
+    x.0 == 255
 }

@@ -5,7 +5,6 @@ use Rattle.spec.specs.State.{arrangementOf}
 use Rattle.motion.specs.Tables.{onVertices}
 use Rattle.motion.specs.Across.{arrangement-length}
 use Rattle.ring.specs.Comparing.{end-full, end-open, full-some}
-use borrow.Author.Needs.{needs}
 use Rattle.ring.proofs.can_end.Statement.{statement}
 use Rattle.ring.proofs.can_end.Tie as tie
 use Rattle.ring.proofs.can_end.Reads as reads

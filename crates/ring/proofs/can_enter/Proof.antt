@@ -5,7 +5,6 @@ use Rattle.spec.specs.State.{arrangementOf}
 use Rattle.motion.specs.Tables.{onVertices}
 use Rattle.motion.specs.Across.{arrangement-length}
 use Rattle.ring.specs.Reading.{enter-inside, enter-vacant, enter-outside}
-use borrow.Author.Needs.{needs}
 use Rattle.ring.proofs.can_enter.Statement.{statement}
 use Rattle.ring.proofs.can_enter.Tie as tie
 use Rattle.ring.proofs.can_enter.Reads as reads

@@ -5,7 +5,6 @@ use Rattle.spec.specs.State.{arrangementOf}
 use Rattle.motion.specs.Tables.{onVertices}
 use Rattle.motion.specs.Across.{arrangement-length}
 use Rattle.ring.specs.Reading.{leave-full, leave-open}
-use borrow.Author.Needs.{needs}
 use Rattle.ring.proofs.can_leave.Statement.{statement}
 use Rattle.ring.proofs.can_leave.Tie as tie
 use Rattle.ring.proofs.can_leave.Reads as reads

@@ -8,7 +8,6 @@ use Rattle.motion.specs.Tables.{onVertices}
 use Rattle.motion.specs.World.{worldIn, madeAll}
 use Rattle.theory.specs.Maps.Cells.{cell-of}
 use Rattle.ring.specs.Ending.{ends-nobody, ends-stands, ends-goal, end-both, opened-count}
-use borrow.Author.Needs.{needs}
 use Rattle.ring.proofs.end.Statement.{statement}
 use Rattle.ring.proofs.end.Tie as tie
 use Rattle.ring.proofs.end.Reads as reads

@@ -7,7 +7,6 @@ use Rattle.motion.specs.World.{worldIn, madeAll}
 use Rattle.motion.specs.Across.{arrangement-length}
 use Rattle.ring.specs.Pushes.{leaves-to}
 use Rattle.ring.specs.Reading.{leave-inside}
-use borrow.Author.Needs.{needs}
 use Rattle.ring.proofs.leave.Statement.{statement}
 use Rattle.ring.proofs.leave.Tie as tie
 use Rattle.ring.proofs.leave.Reads as reads

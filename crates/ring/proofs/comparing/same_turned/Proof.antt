@@ -8,7 +8,6 @@ use Rattle.motion.specs.Across.{arrangement-length}
 use Prim.Native.Nat.{suc}
 use Rattle.ring.specs.Reading.{seek-within}
 use Rattle.ring.specs.Comparing.{turned-none, turned-from, turned-out, first-none, first-robot}
-use borrow.Author.Needs.{needs}
 use Rattle.ring.proofs.comparing.same_turned.Statement.{statement}
 use Rattle.ring.proofs.comparing.same_turned.Tie as tie
 use Rattle.ring.proofs.comparing.same_turned.Reads as reads

@@ -7,7 +7,6 @@ use Rattle.motion.specs.Tables.{onVertices}
 use Rattle.motion.specs.World.{worldIn, madeAll}
 use Rattle.motion.specs.Across.{arrangement-length}
 use Rattle.ring.specs.Pushes.{pushes-to}
-use borrow.Author.Needs.{needs}
 use Rattle.ring.proofs.pushing.push_to.Statement.{statement}
 use Rattle.ring.proofs.pushing.push_to.Tie as tie
 use Rattle.ring.proofs.pushing.push_to.Reads as reads

@@ -2,7 +2,6 @@ use borrow.Author.Needs.{needs}
 use mathlib.Core.Path.{ap, _∙_}
 use Rattle.spec.specs.State.{robotOn}
 use Rattle.motion.specs.Tables.{onVertices}
-use borrow.Author.Needs.{needs}
 use Rattle.ring.proofs.reading.robot_at.Statement.{statement}
 use Rattle.ring.proofs.reading.robot_at.Tie as tie
 use Rattle.ring.proofs.reading.robot_at.Reads as reads

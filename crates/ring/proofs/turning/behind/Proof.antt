@@ -1,7 +1,6 @@
 use borrow.Author.Needs.{needs}
 use Rattle.motion.specs.Tables.{onVertices}
 use Rattle.ring.specs.Entry.{behind-none, behind-robot}
-use borrow.Author.Needs.{needs}
 use Rattle.ring.proofs.turning.behind.Statement.{statement}
 use Rattle.ring.proofs.turning.behind.Tie as tie
 use Rattle.ring.proofs.turning.behind.Reads as reads

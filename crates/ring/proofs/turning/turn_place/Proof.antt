@@ -2,7 +2,6 @@ use borrow.Author.Needs.{needs}
 use mathlib.Core.Path.{_∙_}
 use Rattle.motion.specs.Tables.{onVertices}
 use Rattle.ring.specs.Turns.{begins-taken, begins-nowhere, begins-behind}
-use borrow.Author.Needs.{needs}
 use Rattle.ring.proofs.turning.turn_place.Statement.{statement}
 use Rattle.ring.proofs.turning.turn_place.Tie as tie
 use Rattle.ring.proofs.turning.turn_place.Reads as reads
