@@ -64,7 +64,7 @@ fn lowest_off(cells: &[u8], goal: &[u8]) -> u8
 }
 
 // At most n moves: "while a cart is off target, if some such cart's target is empty, the one whose target is listed earliest moves there;
-// otherwise the lowest-numbered such cart moves to the earliest listed empty point". No open target stands before the place that was left last.
+// otherwise the lowest-numbered such cart moves to the earliest listed empty point". A target opens only where a robot left, so the next one is looked for from there.
 pub fn go_toward(
     robots: &mut [u8],
     vertices: &mut [u8],
@@ -95,7 +95,7 @@ pub fn go_toward(
             }
             let i = seek_cell(cells, x);
             let f = first_empty(cells);
-            from = least(i, q);
+            from = i;
             count = go(robots, vertices, count, zone, cells, x, i, f, out);
         }
     }

@@ -5,6 +5,7 @@ use mathlib.Core.Path.{_≡_, refl, sym, _∙_}
 use lib.ListN.{length, drop}
 use Rattle.spec.specs.Arrangement.{mv}
 use Rattle.spec.specs.State.{across}
+use Rattle.theory.specs.Basics.Searches.{seek-le}
 use Rattle.motion.specs.World.{worldIn, madeAll}
 use Rattle.motion.specs.Across.{made-more}
 use Rattle.spec.specs.Clique.{openTarget, cliqueTo}
@@ -122,10 +123,6 @@ seek-cell-requires-2 c κs = search needs
 first-empty-requires : tie.Need-first-empty-requires Inv-loop μ-loop
 first-empty-requires c κs = search needs
 
--- src/toward.rt:98:13
-least-requires-2 : tie.Need-least-requires-2 Inv-loop μ-loop
-least-requires-2 c κs = search needs
-
 -- src/toward.rt:99:13
 go-requires-2 : tie.Need-go-requires-2 Inv-loop μ-loop
 go-requires-2 c κs = search needs
@@ -137,22 +134,22 @@ loop-less-2 c = search needs
 -- src/toward.rt:83:5
 loop-again-2 : tie.Need-loop-again-2 Inv-loop μ-loop
 loop-again-2 c =
-    let a = c .before .before .before .before .before .before .before .before .before .before .before .before .before .before .before .before .before .before .before .before .before .before .before .before .before .before .before .before .before .before .before .before .args in
-    let o = c .before .before .before .before .before .before .before .before .before .before .before .before .before .before .before .before .before .before .before .before .before .before .before .before .before .loop in
+    let a = c .before .before .before .before .before .before .before .before .before .before .before .before .before .before .before .before .before .before .before .before .before .before .before .before .before .before .before .before .before .before .before .args in
+    let o = c .before .before .before .before .before .before .before .before .before .before .before .before .before .before .before .before .before .before .before .before .before .before .before .before .loop in
     let z = a .zone .now in
     let g = a .goal .now in
-    let q = c .before .before .before .before .before .before .before .before .before .before .before .before .before .before .before .before .before .before .before .before .before .before .open-target .result in
-    let here : c .before .before .before .before .before .before .before .before .before .before .before .before .before .before .before .before .before .before .before .before .before .before .open-target .result ≡ openTarget (o .cells) (a .goal .now) = c .before .before .before .before .before .before .before .before .before .before .before .before .before .before .before .before .before .before .before .before .before .before .open-target .ensures ∙ sym (o .inv .4) in
-    let x = c .before .before .before .before .before .before .before .before .before .before .before .before .before .before .before .before .before .before .before .lowest-off .result in
-    let i = c .before .before .before .before .before .before .before .before .before .before .before .before .before .before .before .before .seek-cell2 .result in
-    let f = c .before .before .before .before .before .before .before .before .before .before .before .before .before .before .first-empty .result in (
+    let q = c .before .before .before .before .before .before .before .before .before .before .before .before .before .before .before .before .before .before .before .before .before .open-target .result in
+    let here : c .before .before .before .before .before .before .before .before .before .before .before .before .before .before .before .before .before .before .before .before .before .open-target .result ≡ openTarget (o .cells) (a .goal .now) = c .before .before .before .before .before .before .before .before .before .before .before .before .before .before .before .before .before .before .before .before .before .open-target .ensures ∙ sym (o .inv .4) in
+    let x = c .before .before .before .before .before .before .before .before .before .before .before .before .before .before .before .before .before .before .lowest-off .result in
+    let i = c .before .before .before .before .before .before .before .before .before .before .before .before .before .before .before .seek-cell2 .result in
+    let f = c .before .before .before .before .before .before .before .before .before .before .before .before .before .first-empty .result in (
       search needs,
       search needs,
       search needs,
       search needs,
-      open-moved (o .cells) _ g (x - 1) i f (c .before .before .before .before .before .before .before .before .before .before .before .before .before .least2 .result) (omega (arith, here, c .before .before .before .before .before .before .before .before .before .before .before .before .before .least2 .ensures)) (omega (arith, c .before .before .before .before .before .before .before .before .before .before .before .before .before .least2 .ensures)) (c .before .before .before .before .before .before .before .before .go2 .ensures .1),
+      open-moved (o .cells) _ g (x - 1) i f i (omega (arith, here, c .before .before .before .before .before .before .before .before .before .before .before .before .before .before .before .before .before .before .before .before .if1 .left, c .before .before .before .before .before .before .before .before .before .before .before .before .before .before .before .seek-cell2 .ensures, seek-le x (o .cells))) (omega arith) (c .before .before .before .before .before .before .before .before .go2 .ensures .1),
       made-more (worldIn (o .robots) (o .vertices) (o .count) (o .out)) _ z (mv (x - 1) i f) _ _ (c .before .before .before .before .before .before .before .before .go2 .ensures .0)
-          (to-room (o .left) (o .cells) _ (a .goal .now) q x i f (c .before .before .before .before .before .before .before .before .before .before .before .before .before .before .before .before .before .before .before .before .before .before .before .before .loop-test .taken) here (c .before .before .before .before .before .before .before .before .before .before .before .before .before .before .before .before .before .before .before .before .before .if1 .left) (c .before .before .before .before .before .before .before .before .before .before .before .before .before .before .before .before .before .before .before .lowest-off .ensures) (c .before .before .before .before .before .before .before .before .before .before .before .before .before .before .before .before .before .before .if2 .left) (c .before .before .before .before .before .before .before .before .before .before .before .before .before .before .before .before .seek-cell2 .ensures) (c .before .before .before .before .before .before .before .before .before .before .before .before .before .before .first-empty .ensures) (c .before .before .before .before .before .before .before .before .go2 .ensures .1))
+          (to-room (o .left) (o .cells) _ (a .goal .now) q x i f (c .before .before .before .before .before .before .before .before .before .before .before .before .before .before .before .before .before .before .before .before .before .before .before .loop-test .taken) here (c .before .before .before .before .before .before .before .before .before .before .before .before .before .before .before .before .before .before .before .before .if1 .left) (c .before .before .before .before .before .before .before .before .before .before .before .before .before .before .before .before .before .before .lowest-off .ensures) (c .before .before .before .before .before .before .before .before .before .before .before .before .before .before .before .before .before .if2 .left) (c .before .before .before .before .before .before .before .before .before .before .before .before .before .before .before .seek-cell2 .ensures) (c .before .before .before .before .before .before .before .before .before .before .before .before .before .first-empty .ensures) (c .before .before .before .before .before .before .before .before .go2 .ensures .1))
           ∙ o .inv .5,
     )
 
@@ -202,7 +199,6 @@ go-toward-spec =
     returns
     seek-cell-requires-2
     first-empty-requires
-    least-requires-2
     go-requires-2
     loop-less-2
     loop-again-2
