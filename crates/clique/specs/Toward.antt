@@ -6,10 +6,10 @@ use Prim.Native.Nat.{ℕ, zero, suc, _+_, _-_, _<_, _≤_, min}
 use mathlib.Core.List.{List, [], _∷_}
 use native.Mathlib.Numerals.{add-one}
 use native.Mathlib.Omega.{arith}
-use native.Mathlib.Decide.{decLt}
+use native.Mathlib.Decide.{decLt, ℕ-discrete}
 use native.Mathlib.Nat.{not-suc-le-zero}
-use lib.ListN.{length, getD, drop, drop-of-length-le}
-use lib.Seq.{drop-cons}
+use lib.ListN.{length, getD, set, drop, length-set, drop-of-length-le}
+use lib.Seq.{drop-cons, getD-set-same, getD-set-other}
 use lib.Dec.{eqb, ltb}
 use borrow.Author.Tests.{eq-eqb, ne-eqb, lt-ltb, le-ltb}
 use Rattle.spec.specs.Arrangement.{Arrangement, Move, mv, seek, cell, apply, lesser}
@@ -66,6 +66,43 @@ module _ (a g : Arrangement) where
 
   pub open-end : (i : ℕ) → min (length a) (length g) ≤ i → i ≡ i + openTarget (drop i a) (drop i g)
   open-end i h = omega (arith, open-none (drop i a) (drop i g) (one-empty a g i h))
+
+-- ---- looking on from a place
+
+-- what is passed over before place k, where no place there was left
+open-kept : (a b g : Arrangement) (k : ℕ) → k ≤ openTarget a g → length b ≡ length a → ((p : ℕ) → p < k → cell b p ≡ 0 → cell a p ≡ 0)
+    → openTarget b g ≡ k + openTarget (drop k b) (drop k g)
+unfolding openTarget
+open-kept a b g zero h l e = omega arith
+open-kept a b [] (suc k) h l e = absurd (not-suc-le-zero h)
+open-kept [] b (y ∷ g) (suc k) h l e = absurd (not-suc-le-zero h)
+open-kept (x ∷ a) [] (y ∷ g) (suc k) h l e = absurd (omega arith)
+open-kept (x ∷ a) (z ∷ b) (zero ∷ g) (suc k) h l e = let i = open-kept a b g k (omega arith) (omega arith) (λ p q. e (suc p) (omega arith)) in omega arith
+open-kept (zero ∷ a) (z ∷ b) (suc r ∷ g) (suc k) h l e = absurd (not-suc-le-zero h)
+open-kept (suc x ∷ a) (zero ∷ b) (suc r ∷ g) (suc k) h l e = let d = e 0 (omega arith) refl in absurd (omega arith)
+open-kept (suc x ∷ a) (suc z ∷ b) (suc r ∷ g) (suc k) h l e = let i = open-kept a b g k (omega arith) (omega arith) (λ p q. e (suc p) (omega arith)) in omega arith
+
+-- no place past the end is found
+open-under : (a g : Arrangement) → openTarget a g ≤ length a
+unfolding openTarget
+open-under a [] = omega arith
+open-under [] (y ∷ g) = omega arith
+open-under (x ∷ a) (zero ∷ g) = let i = open-under a g in omega arith
+open-under (zero ∷ a) (suc r ∷ g) = omega arith
+open-under (suc x ∷ a) (suc r ∷ g) = let i = open-under a g in omega arith
+
+-- after a move, nothing is found before the place that was left
+pub open-moved : (a b g : Arrangement) (r i j k : ℕ) → k ≤ openTarget a g → k ≤ i → b ≡ apply a (mv r i j)
+    → openTarget b g ≡ k + openTarget (drop k b) (drop k g)
+open-moved a b g r i j k h l e =
+    rw e (open-kept a (apply a (mv r i j)) g k h (length-set (set a i 0) j (suc r) ∙ length-set a i 0) (λ p q. at p q (ℕ-discrete p j)))
+  where
+    at : (p : ℕ) → p < k → Dec (p ≡ j) → cell (apply a (mv r i j)) p ≡ 0 → cell a p ≡ 0
+    at p q (yes d) z =
+        let s : j < length (set a i 0) = omega (arith, length-set a i 0, open-under a g) in
+        let t : cell (apply a (mv r i j)) p ≡ suc r = rw d (getD-set-same (set a i 0) j (suc r) 0 s) in
+        absurd (omega arith)
+    at p q (no d) z = sym (getD-set-other (set a i 0) j p (suc r) 0 d ∙ getD-set-other a i p 0 0 (λ c. omega arith)) ∙ z
 
 -- ---- the lowest robot off its target
 

@@ -1,5 +1,7 @@
 // The moves of a clique towards a given arrangement. The arrangement is kept in lent cells: 0 for nothing, r + 1 for robot r.
 ghost use mathlib.Core.Path.{_≡_};
+ghost use Prim.Native.Nat.{_+_};
+ghost use lib.ListN.{drop};
 ghost use Rattle.spec.specs.Clique.{openTarget, lowestOff, cliqueTo};
 ghost use Rattle.spec.specs.State.{across};
 ghost use Rattle.motion.specs.World.{worldIn, madeAll};
@@ -10,12 +12,12 @@ use motion::go;
 use motion::least;
 use motion::seek_cell;
 
-// The earliest place that is empty and some robot's target; the size where there is none.
-fn open_target(cells: &[u8], goal: &[u8]) -> usize
-    ensures { λ q. ⌜ q ≡ openTarget (now (cells .entry)) (now (goal .entry)) ⌝ }
+// The earliest place that is empty and some robot's target, looked for from a place on; the size where there is none.
+fn open_target(cells: &[u8], goal: &[u8], from: usize) -> usize
+    ensures { λ q. ⌜ q ≡ from + openTarget (drop from (now (cells .entry))) (drop from (now (goal .entry))) ⌝ }
 {
     let n = least(cells.len(), goal.len());
-    let mut i: usize = 0;
+    let mut i = from;
     while i < n {
         let x = cells[i];
         let y = goal[i];
@@ -62,7 +64,7 @@ fn lowest_off(cells: &[u8], goal: &[u8]) -> u8
 }
 
 // At most n moves: "while a cart is off target, if some such cart's target is empty, the one whose target is listed earliest moves there;
-// otherwise the lowest-numbered such cart moves to the earliest listed empty point"
+// otherwise the lowest-numbered such cart moves to the earliest listed empty point". A target opens only where a robot left, so the next one is looked for from there.
 pub fn go_toward(
     robots: &mut [u8],
     vertices: &mut [u8],
@@ -77,12 +79,14 @@ pub fn go_toward(
 {
     let mut count = count;
     let mut left = n;
+    let mut from: usize = 0;
     while 0 < left {
-        let q = open_target(cells, goal);
+        let q = open_target(cells, goal, from);
         left -= 1;
         if q < cells.len() {
             let y = cell_at(goal, q);
             let i = seek_cell(cells, y);
+            from = least(i, q);
             count = go(robots, vertices, count, zone, cells, y, i, q, out);
         } else {
             let x = lowest_off(cells, goal);
@@ -91,6 +95,7 @@ pub fn go_toward(
             }
             let i = seek_cell(cells, x);
             let f = first_empty(cells);
+            from = i;
             count = go(robots, vertices, count, zone, cells, x, i, f, out);
         }
     }
