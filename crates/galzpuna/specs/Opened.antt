@@ -1,5 +1,5 @@
 -- A map, a placing and a move list that are read and checked, and what the services are then.
-use mathlib.Core.Path.{_≡_, refl, sym, ap, _∙_}
+use mathlib.Core.Path.{_≡_, refl, sym, ap, subst, _∙_}
 use mathlib.Core.Logic.{_⊎_, inl, inr, ⊎-elim}
 use Prim.Native.Nat.{ℕ, zero, suc, _+_, _*_, _/_, _≤_, _<_}
 use native.Mathlib.Omega.{arith}
@@ -25,12 +25,16 @@ use Rattle.theory.specs.Maps.Placing.{Placed, placing-accepted}
 use Rattle.theory.specs.Services.Places.{Small, small-payload, small-map, small-placing, small-checked, count-small}
 use Rattle.adjacency.specs.Rows.{Shows}
 use Rattle.layout.specs.Fault as mapFault
-use Rattle.layout.specs.Map.{mapIn, mapOr, MapHeld, MapIs}
+use Rattle.layout.specs.Bytes.{held}
+use Rattle.layout.specs.Map.{mapIn, mapOr, MapHeld, MapIs, file-map}
 use Rattle.layout.specs.declared.MapRead.{MapRead}
 use Rattle.placing.specs.Fault as placingFault
 use Rattle.placing.specs.Placing.{placingIn, placingOr, PlacingHeld, PlacingIs}
 use Rattle.placing.specs.declared.PlacingRead.{PlacingRead}
 use Rattle.wire.specs.Payload.{payload, held-length, held-byte}
+use Rattle.wire.specs.Checked.{checkedOf, Whole, Held, read-as, held-as}
+use Rattle.wire.specs.declared.Checked.{Checked}
+use Rattle.wire.specs.declared.Checked.the-variants.{Payload}
 use Rattle.replay.specs.Moves.{moveBy, movesBy, bytesOf, fileBytes, moves-same, moves-length}
 use Rattle.replay.specs.Drawn.{EndsOn}
 use Rattle.galzpuna.specs.Refusals.{refusalOr, movesFile, movesList}
@@ -71,7 +75,7 @@ chain a b c K = do
   K it ms
 
 module _ (a b c : List ℕ) (K : Instance → List Move → Outcome (List ℕ)) (n q : ℕ) where
-  chain-instance : instanceOf a b ≡ refuse n q → chain a b c K ≡ refuse n q
+  pub chain-instance : instanceOf a b ≡ refuse n q → chain a b c K ≡ refuse n q
   unfolding chain
   chain-instance e = refused-bind _ _ n q e
 
@@ -163,6 +167,39 @@ pub record OpenedIs (a b c : List ℕ) (r : Opened) : Type 0 where
   pub refused : (r .refusal .number ≡ 0 → ⊥) → (K : Instance → List Move → Outcome (List ℕ)) → chain a b c K ≡ refuse (r .refusal .number) (r .refusal .place)
   pub small : r .refusal .place < 65536
   pub opened : r .refusal .number ≡ 0 → ListRead a b c (r .map) (r .placing) (r .count)
+
+-- ---- the map's file
+
+-- its blocks have passed, and its payload has len bytes
+pub record MapFiled (a : List ℕ) (len : ℕ) : Type 0 where
+  pub filed : payloadOf 10 1 9 a ≡ ok (take len (payload a))
+  pub whole : Whole 9 a len
+
+module _ (a : List ℕ) (len : ℕ) (f : MapFiled a len) where
+  -- the payload is within the limit
+  pub filed-few : len ≤ 65000
+  filed-few = omega (arith, f .whole .most, f .whole .limited)
+
+  -- its map is the file's
+  pub filed-map : (map : MapRead) (rows : List (List ℕ)) → MapIs (mapOf (held a len)) map rows → MapIs (mapIn a) map rows
+  filed-map map rows = subst (λ (o : Outcome Map). MapIs o map rows) (sym (file-map a len (f .filed) (f .whole .most)))
+
+module _ (a : List ℕ) (k : Checked) (e : (base : ℕ) → checkedOf base a k ≡ payloadOf base 1 9 a) (n q : ℕ) (r : (f : List ℕ) → movesFile n q f ≡ checkedOf 10 f k) where
+  -- they pass
+  pub filed-passed : Held 9 a k → (n ≡ 0 → k ≡ Payload q) → n ≡ 0 → MapFiled a q
+  filed-passed h t z = record { filed = read-as 10 1 9 a k (Payload q) (e 10) (t z); whole = held-as 9 a k (Payload q) h (t z) }
+
+  module _ (h : n ≡ 0 → ⊥) where
+    filed-refused : payloadOf 10 1 9 a ≡ refuse n q
+    filed-refused = sym (e 10) ∙ sym (r a) ∙ refusal-some n q (take q (payload a)) h
+
+    -- or one is refused, as every service refuses it
+    pub filed-instance : (b : List ℕ) → instanceOf a b ≡ refuse n q
+    unfolding instanceOf
+    filed-instance b = refused-bind _ _ n q filed-refused
+
+    pub filed-place : q < 65536
+    filed-place = small-at 65536 n q (payloadOf 10 1 9 a) (small-payload 65536 10 1 9 a (omega arith) (omega arith)) filed-refused
 
 -- ---- the moves of a checked list
 

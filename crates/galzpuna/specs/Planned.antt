@@ -109,14 +109,12 @@ len-few f n w = omega (arith, w .most, w .limited)
 
 module _ (a b c o₀ : List ℕ) where
   -- map or placing is refused
-  pub planned-yard : (rows : List (List ℕ)) (y : Yard) → YardIs a b rows y → (y .refusal .number ≡ 0 → ⊥) → PlannedIs a b c o₀ (record { refusal = y .refusal; count = 0 }) o₀
+  pub planned-instance : (n q : ℕ) → (n ≡ 0 → ⊥) → meaning.instanceOf a b ≡ refuse n q → q < 65536 → PlannedIs a b c o₀ (record { refusal = record { number = n; place = q }; count = 0 }) o₀
   unfolding meaning.planMoves
-  planned-yard rows y w h = record {
-    refused = λ z. refused-bind _ _ (y .refusal .number) (y .refusal .place) (w .refused h);
-    small = λ z. w .small h;
-    resolved = λ z. absurd (h z);
-    long = refl;
-  }
+  planned-instance n q h e l = record { refused = λ z. refused-bind _ _ n q e; small = λ z. l; resolved = λ z. absurd (h z); long = refl }
+
+  pub planned-yard : (rows : List (List ℕ)) (y : Yard) → YardIs a b rows y → (y .refusal .number ≡ 0 → ⊥) → PlannedIs a b c o₀ (record { refusal = y .refusal; count = 0 }) o₀
+  planned-yard rows y w h = planned-instance (y .refusal .number) (y .refusal .place) h (w .refused h) (w .small h)
 
   module _ (map : MapRead) (pl : PlacingRead) (rows : List (List ℕ)) (d : YardRead a b map pl rows) (hc : Bytes c) (o : Outcome (List ℕ)) (ec : o ≡ payloadOf 30 3 64 c)
       (n q : ℕ) (e : movesFile n q c ≡ o) where

@@ -52,16 +52,25 @@ unfolding roundsFrom
 rounds-length earlier [] = refl
 rounds-length earlier (m ∷ ms) = ap suc (rounds-length (record { move = m; round = roundOf earlier m } ∷ earlier) ms)
 
+module _ (a b c : List ℕ) (n q : ℕ) (d : (K : meaning.Instance → List Move → Outcome (List ℕ)) → chain a b c K ≡ refuse n q) (o : List ℕ) where
+  -- drawing refuses as its chain of checks does
+  pub draw-chain : refusal n q o ≡ meaning.drawing a b c (length o)
+  unfolding meaning.answerOf
+  draw-chain = sym (drawing-is a b c (length o) ∙ ap (meaning.answerOf (length o)) (d (plan (length o))))
+
+  -- so does rounds
+  pub rounds-chain : refusal n q o ≡ meaning.rounds a b c (length o)
+  unfolding meaning.answerOf
+  rounds-chain = sym (rounds-is a b c (length o) ∙ ap (meaning.answerOf (length o)) (d (sheet (length o))))
+
 module _ (a b c : List ℕ) (r : Opened) (d : OpenedIs a b c r) (h : r .refusal .number ≡ 0 → ⊥) (o : List ℕ) where
   -- drawing refuses as opening does
   pub draw-refused : refusal (r .refusal .number) (r .refusal .place) o ≡ meaning.drawing a b c (length o)
-  unfolding meaning.answerOf
-  draw-refused = sym (drawing-is a b c (length o) ∙ ap (meaning.answerOf (length o)) (d .refused h (plan (length o))))
+  draw-refused = draw-chain a b c (r .refusal .number) (r .refusal .place) (d .refused h) o
 
   -- so does rounds
   pub rounds-refused : refusal (r .refusal .number) (r .refusal .place) o ≡ meaning.rounds a b c (length o)
-  unfolding meaning.answerOf
-  rounds-refused = sym (rounds-is a b c (length o) ∙ ap (meaning.answerOf (length o)) (d .refused h (sheet (length o))))
+  rounds-refused = rounds-chain a b c (r .refusal .number) (r .refusal .place) (d .refused h) o
 
 -- the starts that the code holds are the placing's
 pub starts-of : (a b c : List ℕ) (map : MapRead) (placing : PlacingRead) (n : ℕ) (l : ListRead a b c map placing n) (s : State) → s ≡ standing (take (placing .robots) (placing .starts))

@@ -8,7 +8,8 @@ ghost use Rattle.theory.specs.Maps.Placing.{Placed};
 ghost use Rattle.wire.specs.Payload.{payload};
 ghost use Rattle.resolve.specs.Given.{Given, Placement};
 ghost use Rattle.resolve.specs.Whole.{ResolvedOr};
-ghost use Rattle.galzpuna.specs.Opened.{OpenedIs, YardIs};
+ghost use Rattle.adjacency.specs.Rows.{blank};
+ghost use Rattle.galzpuna.specs.Opened.{MapFiled, OpenedIs, YardIs};
 ghost use Rattle.judge.specs.Judging.{JudgedTo};
 ghost use Rattle.galzpuna.specs.Planned.{PlannedIs, JudgedIs};
 use crate::Opened;
@@ -54,11 +55,12 @@ fn yard(r: Refusal, m: MapRead, p: PlacingRead) -> Yard
     }
 }
 
-// Reads map and placing; the rows are the map's edges.
-pub fn read_yard(map: &[u8], placed: &[u8], rows: &mut [[u64; 2]; 128]) -> Yard
+// Reads map and placing, where the map's blocks have passed; the rows are the map's edges.
+pub fn read_yard(map: &[u8], len: usize, placed: &[u8], rows: &mut [[u64; 2]; 128]) -> Yard
+    requires { ⌜ MapFiled (now map) len × (now rows ≡ blank) ⌝ }
     ensures { λ y. ⌜ YardIs (now (map .entry)) (now (placed .entry)) (now (rows .exit)) y ⌝ }
 {
-    let m = layout::map::read_map(map, rows);
+    let m = layout::map::read_map(map, len, rows);
     let unmapped = m.fault;
     let n = m.vertices as usize;
     let a = refusals::of_map(unmapped);
@@ -74,12 +76,13 @@ pub fn read_yard(map: &[u8], placed: &[u8], rows: &mut [[u64; 2]; 128]) -> Yard
     yard(b, m, p)
 }
 
-// Reads map, placing and move list, and checks the moves.
-pub fn open_list(map: &[u8], placed: &[u8], moves: &[u8]) -> Opened
+// Reads map, placing and move list, where the map's blocks have passed, and checks the moves.
+pub fn open_list(map: &[u8], len: usize, placed: &[u8], moves: &[u8]) -> Opened
+    requires { ⌜ MapFiled (now map) len ⌝ }
     ensures { λ r. ⌜ OpenedIs (now (map .entry)) (now (placed .entry)) (now (moves .entry)) r ⌝ }
 {
     let mut rows = [[0u64; 2]; 128];
-    let y = read_yard(map, placed, &mut rows);
+    let y = read_yard(map, len, placed, &mut rows);
     let a = y.refusal;
     let m = y.map;
     let p = y.placing;
@@ -148,13 +151,14 @@ fn resolve_on(
     )
 }
 
-// Reads map, placing and plan, judges the plan, and resolves it if it is cleared: its moves are laid into the buffer, after the two bytes of the
-// count, as far as a list goes.
-pub fn resolve_files(map: &[u8], placed: &[u8], plan: &[u8], out: &mut [u8]) -> Planned
+// Reads map, placing and plan, where the map's blocks have passed, judges the plan, and resolves it if it is cleared: its moves are laid into the
+// buffer, after the two bytes of the count, as far as a list goes.
+fn resolve_checked(map: &[u8], len: usize, placed: &[u8], plan: &[u8], out: &mut [u8]) -> Planned
+    requires { ⌜ MapFiled (now map) len ⌝ }
     ensures { λ r. ⌜ PlannedIs (now (map .entry)) (now (placed .entry)) (now (plan .entry)) (now (out .entry)) r (now (out .exit)) ⌝ }
 {
     let mut rows = [[0u64; 2]; 128];
-    let y = read_yard(map, placed, &mut rows);
+    let y = read_yard(map, len, placed, &mut rows);
     let a = y.refusal;
     if a.number != 0 {
         return Planned {
@@ -188,6 +192,21 @@ pub fn resolve_files(map: &[u8], placed: &[u8], plan: &[u8], out: &mut [u8]) -> 
         refusal: d,
         count: r.count,
     }
+}
+
+// The same for any map; one that is refused for its blocks is not read.
+pub fn resolve_files(map: &[u8], placed: &[u8], plan: &[u8], out: &mut [u8]) -> Planned
+    ensures { λ r. ⌜ PlannedIs (now (map .entry)) (now (placed .entry)) (now (plan .entry)) (now (out .entry)) r (now (out .exit)) ⌝ }
+{
+    let filed = wire::check_file(map, 1, 9);
+    let a = refusals::of_map_file(filed);
+    if a.number != 0 {
+        return Planned {
+            refusal: a,
+            count: 0,
+        };
+    }
+    resolve_checked(map, a.place, placed, plan, out)
 }
 
 // Judges the plan in a checked file on a map and a placing that were read.
@@ -228,12 +247,13 @@ fn judge_on(
     )
 }
 
-// Reads map, placing and plan, and judges the plan; number 0 is cleared.
-pub fn judge_files(map: &[u8], placed: &[u8], plan: &[u8]) -> Refusal
+// Reads map, placing and plan, where the map's blocks have passed, and judges the plan; number 0 is cleared.
+fn judge_checked(map: &[u8], len: usize, placed: &[u8], plan: &[u8]) -> Refusal
+    requires { ⌜ MapFiled (now map) len ⌝ }
     ensures { λ r. ⌜ JudgedIs (now (map .entry)) (now (placed .entry)) (now (plan .entry)) r ⌝ }
 {
     let mut rows = [[0u64; 2]; 128];
-    let y = read_yard(map, placed, &mut rows);
+    let y = read_yard(map, len, placed, &mut rows);
     let a = y.refusal;
     if a.number != 0 {
         return a;
@@ -248,4 +268,16 @@ pub fn judge_files(map: &[u8], placed: &[u8], plan: &[u8]) -> Refusal
     let listed = m.listed;
     let fault = judge_on(plan, c.place, m, listed, &rows, p);
     refusals::of_plan(fault)
+}
+
+// The same for any map; one that is refused for its blocks is not read.
+pub fn judge_files(map: &[u8], placed: &[u8], plan: &[u8]) -> Refusal
+    ensures { λ r. ⌜ JudgedIs (now (map .entry)) (now (placed .entry)) (now (plan .entry)) r ⌝ }
+{
+    let filed = wire::check_file(map, 1, 9);
+    let a = refusals::of_map_file(filed);
+    if a.number != 0 {
+        return a;
+    }
+    judge_checked(map, a.place, placed, plan)
 }

@@ -17,7 +17,36 @@ use replay::MoveList;
 use resolve::PlanFault;
 use wire::Checked;
 
-// A map's: 11 to 19.
+// A map's file: 11 to 14; where there is no refusal, the place is the payload's length.
+pub fn of_map_file(checked: Checked) -> Refusal
+    ensures { λ r. ⌜ ((f : List ℕ) → movesFile (r .number) (r .place) f ≡ checkedOf 10 f checked) ⌝ }
+    ensures { λ r. ⌜ (r .number ≡ 0 → checked ≡ Checked.Payload (r .place)) ⌝ }
+{
+    match checked {
+        Checked::Payload(len) => Refusal {
+            number: 0,
+            place: len,
+        },
+        Checked::Length => Refusal {
+            number: 11,
+            place: 0,
+        },
+        Checked::Checksum(i) => Refusal {
+            number: 12,
+            place: i,
+        },
+        Checked::Head(i) => Refusal {
+            number: 13,
+            place: i,
+        },
+        Checked::Fill(i) => Refusal {
+            number: 14,
+            place: i,
+        },
+    }
+}
+
+// A map's: 15 to 19, where its blocks have passed.
 pub fn of_map(fault: MapFault) -> Refusal
     ensures { λ r. ⌜ ((m : Map) → refusalOr (r .number) (r .place) m ≡ mapFault.answered fault m) ⌝ }
 {
@@ -25,22 +54,6 @@ pub fn of_map(fault: MapFault) -> Refusal
         MapFault::None => Refusal {
             number: 0,
             place: 0,
-        },
-        MapFault::Length => Refusal {
-            number: 11,
-            place: 0,
-        },
-        MapFault::Checksum(i) => Refusal {
-            number: 12,
-            place: i,
-        },
-        MapFault::Head(i) => Refusal {
-            number: 13,
-            place: i,
-        },
-        MapFault::Fill(i) => Refusal {
-            number: 14,
-            place: i,
         },
         MapFault::Short(o) => Refusal {
             number: 15,

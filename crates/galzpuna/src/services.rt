@@ -4,11 +4,13 @@ ghost use Prim.Native.Nat.{_<_};
 ghost use lib.ListN.{length};
 ghost use mathlib.Core.List.{[]};
 ghost use Rattle.spec.specs.Services.{judging, resolving, drawing, rounds};
+ghost use Rattle.galzpuna.specs.Opened.{MapFiled};
 ghost use Rattle.galzpuna.specs.Services.{answered, refusal};
 use crate::Answer;
 use crate::files::judge_files;
 use crate::files::open_list;
 use crate::files::resolve_files;
+use crate::refusals::of_map_file;
 
 // Gives a refusal, and leaves the whole buffer zero.
 fn refuse(out: &mut [u8], number: u32, place: usize) -> Answer
@@ -22,12 +24,12 @@ fn refuse(out: &mut [u8], number: u32, place: usize) -> Answer
     }
 }
 
-// Drawing: the plan of a move list that is legal and reaches the goals.
-#[no_mangle]
-pub extern "C" fn galzpuna_draw(map: &[u8], placing: &[u8], moves: &[u8], out: &mut [u8]) -> Answer
+// Drawing, where the map's blocks have passed.
+fn draw_checked(map: &[u8], len: usize, placing: &[u8], moves: &[u8], out: &mut [u8]) -> Answer
+    requires { ⌜ MapFiled (now map) len ⌝ }
     ensures { λ r. ⌜ answered r (now (out .exit)) ≡ drawing (now (map .entry)) (now (placing .entry)) (now (moves .entry)) (length (now (out .entry))) ⌝ }
 {
-    let o = open_list(map, placing, moves);
+    let o = open_list(map, len, placing, moves);
     let f = o.refusal;
     let number = f.number;
     if number != 0 {
@@ -49,17 +51,26 @@ pub extern "C" fn galzpuna_draw(map: &[u8], placing: &[u8], moves: &[u8], out: &
     }
 }
 
-// Rounds: the round sheet of a move list that is legal and reaches the goals.
+// Drawing: the plan of a move list that is legal and reaches the goals.
 #[no_mangle]
-pub extern "C" fn galzpuna_rounds(
-    map: &[u8],
-    placing: &[u8],
-    moves: &[u8],
-    out: &mut [u8],
-) -> Answer
+pub extern "C" fn galzpuna_draw(map: &[u8], placing: &[u8], moves: &[u8], out: &mut [u8]) -> Answer
+    ensures { λ r. ⌜ answered r (now (out .exit)) ≡ drawing (now (map .entry)) (now (placing .entry)) (now (moves .entry)) (length (now (out .entry))) ⌝ }
+{
+    let filed = wire::check_file(map, 1, 9);
+    let f = of_map_file(filed);
+    let number = f.number;
+    if number != 0 {
+        return refuse(out, number, f.place);
+    }
+    draw_checked(map, f.place, placing, moves, out)
+}
+
+// Rounds, where the map's blocks have passed.
+fn rounds_checked(map: &[u8], len: usize, placing: &[u8], moves: &[u8], out: &mut [u8]) -> Answer
+    requires { ⌜ MapFiled (now map) len ⌝ }
     ensures { λ r. ⌜ answered r (now (out .exit)) ≡ rounds (now (map .entry)) (now (placing .entry)) (now (moves .entry)) (length (now (out .entry))) ⌝ }
 {
-    let o = open_list(map, placing, moves);
+    let o = open_list(map, len, placing, moves);
     let f = o.refusal;
     let number = f.number;
     if number != 0 {
@@ -73,6 +84,25 @@ pub extern "C" fn galzpuna_rounds(
         number: w.number,
         place: w.value,
     }
+}
+
+// Rounds: the round sheet of a move list that is legal and reaches the goals.
+#[no_mangle]
+pub extern "C" fn galzpuna_rounds(
+    map: &[u8],
+    placing: &[u8],
+    moves: &[u8],
+    out: &mut [u8],
+) -> Answer
+    ensures { λ r. ⌜ answered r (now (out .exit)) ≡ rounds (now (map .entry)) (now (placing .entry)) (now (moves .entry)) (length (now (out .entry))) ⌝ }
+{
+    let filed = wire::check_file(map, 1, 9);
+    let f = of_map_file(filed);
+    let number = f.number;
+    if number != 0 {
+        return refuse(out, number, f.place);
+    }
+    rounds_checked(map, f.place, placing, moves, out)
 }
 
 // Judging: is the plan cleared? Nothing is written.

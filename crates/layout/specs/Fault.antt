@@ -1,4 +1,4 @@
--- Document 01's number and place for each refusal of a map.
+-- Document 01's number and place for each refusal of a map whose blocks have passed.
 use mathlib.Core.Path.{_≡_, refl, ap, sym, _∙_}
 use mathlib.Core.Bool.{Bool, true, false}
 use Prim.Native.Nat.{ℕ}
@@ -6,15 +6,11 @@ use native.Mathlib.Omega.{arith}
 use Rattle.spec.specs.Outcome.{Outcome, ok, refuse, _>>=_, _>>_}
 use Rattle.layout.specs.Chain.{Refused, hand, relay, hand-on, relay-on}
 use Rattle.layout.specs.declared.MapFault.{MapFault}
-use Rattle.layout.specs.declared.MapFault.the-variants.{None, Length, Checksum, Head, Fill, Short, Range, Listing, Edge, Kind}
+use Rattle.layout.specs.declared.MapFault.the-variants.{None, Short, Range, Listing, Edge, Kind}
 
 -- what was read, or the refusal
 abbrev pub answered : {A : Type 0} → MapFault → A → Outcome A
 answered None a = ok a
-answered Length a = refuse 11 0
-answered (Checksum block) a = refuse 12 block
-answered (Head block) a = refuse 13 block
-answered (Fill block) a = refuse 14 block
 answered (Short offset) a = refuse 15 offset
 answered (Range offset) a = refuse 16 offset
 answered (Listing offset) a = refuse 17 offset
@@ -23,10 +19,6 @@ answered (Kind zone) a = refuse 19 zone
 
 abbrev pub soundOf : MapFault → Bool
 soundOf None = true
-soundOf Length = false
-soundOf (Checksum block) = false
-soundOf (Head block) = false
-soundOf (Fill block) = false
 soundOf (Short offset) = false
 soundOf (Range offset) = false
 soundOf (Listing offset) = false
@@ -40,10 +32,6 @@ not-both {A} {b} e f = absurd (let z : _≡_ {A = ℕ} (elim true as (λ _. ℕ)
 -- no fault is None
 pub sound-none : (f : MapFault) → soundOf f ≡ true → f ≡ None
 sound-none None e = refl
-sound-none Length e = not-both e refl
-sound-none (Checksum b) e = not-both e refl
-sound-none (Head b) e = not-both e refl
-sound-none (Fill b) e = not-both e refl
 sound-none (Short o) e = not-both e refl
 sound-none (Range o) e = not-both e refl
 sound-none (Listing o) e = not-both e refl
@@ -60,10 +48,6 @@ answers A f a = answered f a
 -- a fault's number and place, whatever was to be read
 pub refused : (f : MapFault) → soundOf f ≡ false → Refused answers f
 refused None s = not-both refl s
-refused Length s = record { number = 11; place = 0; is = λ a. refl }
-refused (Checksum i) s = record { number = 12; place = i; is = λ a. refl }
-refused (Head i) s = record { number = 13; place = i; is = λ a. refl }
-refused (Fill i) s = record { number = 14; place = i; is = λ a. refl }
 refused (Short i) s = record { number = 15; place = i; is = λ a. refl }
 refused (Range i) s = record { number = 16; place = i; is = λ a. refl }
 refused (Listing i) s = record { number = 17; place = i; is = λ a. refl }

@@ -9,9 +9,7 @@ use Rattle.spec.specs.Outcome.{Outcome, ok, refuse, _>>=_, indexOf}
 use Rattle.spec.specs.Wire.{payloadOf}
 use Rattle.spec.specs.Layout.{Map, Edge, listed, mapOf, zoneFrom, zoneOf, zoneAt}
 use Rattle.theory.specs.Basics.Lists.{getD-uniform}
-use Rattle.wire.specs.declared.Checked.{Checked}
-use Rattle.wire.specs.declared.Checked.the-variants.{Payload}
-use Rattle.wire.specs.Checked.{checkedOf, Held, Whole}
+use Rattle.wire.specs.Payload.{payload}
 use Rattle.adjacency.specs.Rows.{blank, rowsOf, joinAll, Shows, shows-none}
 use Rattle.layout.specs.declared.MapFault.{MapFault}
 use Rattle.layout.specs.declared.MapFault.the-variants.{None}
@@ -168,33 +166,16 @@ none-held f = record {
   long-place = refl;
 }
 
--- ---- the file
+-- ---- the rows
 
--- a file that is refused
-pub file-refused : (outcome : Outcome Map) (f : MapFault) (b : Map) (r : MapRead) (rows : List (List ℕ)) → outcome ≡ answered f b → soundOf f ≡ false → Nothing f r → rows ≡ blank → MapIs outcome r rows
-unfolding joinAll
-file-refused outcome f b r rows e s w k =
-    let l = nothing-is outcome f b r rows e s w in
-    let q = refused f s in
-    let none : noMap ≡ mapOr outcome = ap mapOr (sym (e ∙ q .is b)) in
-    record {
-      answer = l .answer;
-      tables = l .tables;
-      entered = k ∙ ap (λ (m : Map). rowsOf (m .edges)) none;
-      shown = rw (k, ← none) shows-none;
-    }
-
--- a payload that is read
-pub file-read : (outcome inner : Outcome Map) (r : MapRead) (rows : List (List ℕ)) → outcome ≡ inner → LayoutIs inner r rows → soundOf (r .fault) ≡ true → MapIs outcome r rows
-file-read outcome inner r rows e t s =
-    let l : LayoutIs outcome r rows = subst (λ (x : Outcome Map). LayoutIs x r rows) (sym e) t in
-    record { answer = l .answer; tables = l .tables; entered = l .entered s; shown = l .shown s }
+-- a map that is read
+pub read-is : (outcome : Outcome Map) (r : MapRead) (rows : List (List ℕ)) → LayoutIs outcome r rows → soundOf (r .fault) ≡ true → MapIs outcome r rows
+read-is outcome r rows l s = record { answer = l .answer; tables = l .tables; entered = l .entered s; shown = l .shown s }
 
 -- one that is refused, with the rows cleared
-pub file-cleared : (outcome inner : Outcome Map) (r : MapRead) (rows last : List (List ℕ)) → outcome ≡ inner → LayoutIs inner r rows → soundOf (r .fault) ≡ false → last ≡ blank → MapIs outcome r last
+pub cleared-is : (outcome : Outcome Map) (r : MapRead) (rows last : List (List ℕ)) → LayoutIs outcome r rows → soundOf (r .fault) ≡ false → last ≡ blank → MapIs outcome r last
 unfolding joinAll
-file-cleared outcome inner r rows last e t s k =
-    let l : LayoutIs outcome r rows = subst (λ (x : Outcome Map). LayoutIs x r rows) (sym e) t in
+cleared-is outcome r rows last l s k =
     let q = refused (r .fault) s in
     let none : noMap ≡ mapOr outcome = ap mapOr (sym (l .answer ∙ q .is (mapOr outcome))) in
     record {
@@ -204,19 +185,9 @@ file-cleared outcome inner r rows last e t s k =
       shown = rw (k, ← none) shows-none;
     }
 
-module _ (file : List ℕ) (k : Checked) (e : (base : ℕ) → checkedOf base file k ≡ payloadOf base 1 9 file) where
-  -- a file that is refused has no map
-  pub no-payload : (n p : ℕ) → checkedOf 10 file k ≡ refuse n p → mapIn file ≡ refuse n p
-  unfolding _>>=_
-  no-payload n p q = ap (λ (o : Outcome (List ℕ)). o >>= mapOf) (sym (e 10) ∙ q)
+-- ---- the file
 
-  -- another has that of its payload
-  pub a-payload : (m : ℕ) → k ≡ Payload m → m ≤ length file / 512 * 504 → mapIn file ≡ mapOf (held file m)
-  unfolding _>>=_
-  a-payload m q h = ap (λ (o : Outcome (List ℕ)). o >>= mapOf) (sym (e 10) ∙ ap (checkedOf 10 file) q) ∙ ap mapOf (held-payload file m h)
-
--- a payload is within its file, and within the limit
-pub payload-bound : (file : List ℕ) (k : Checked) (m : ℕ) → Held 9 file k → k ≡ Payload m → (m ≤ length file / 512 * 504) × (m ≤ 65000)
-payload-bound file k m h e =
-    let w : Whole 9 file m = subst (λ (x : Checked). Held 9 file x) e h in
-    (w .most, omega (arith, w .most, w .limited))
+-- the map in a file whose blocks have passed is that of its payload
+pub file-map : (file : List ℕ) (m : ℕ) → payloadOf 10 1 9 file ≡ ok (take m (payload file)) → m ≤ length file / 512 * 504 → mapIn file ≡ mapOf (held file m)
+unfolding _>>=_
+file-map file m e h = ap (λ (o : Outcome (List ℕ)). o >>= mapOf) e ∙ ap mapOf (held-payload file m h)

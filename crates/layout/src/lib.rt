@@ -1,4 +1,4 @@
-// A map read from its file, accepted or refused (document 01, "Block files" and "Zones and configurations").
+// A map read from its payload, accepted or refused (document 01, "Block files" and "Zones and configurations").
 //
 //     heads    the counts, and a zone's kind and size
 //     zones    the zones' vertices in listed order, and the zone and place of each vertex
@@ -17,13 +17,9 @@ pub use tables::vertex_at;
 pub use tables::zone_entry;
 pub use tables::zone_of;
 
-// Why a map is refused, with the block, the payload offset or the zone; None where it is accepted.
+// Why a map is refused whose blocks have passed, with the payload offset or the zone; None where it is accepted.
 pub enum MapFault {
     None,
-    Length,
-    Checksum(usize),
-    Head(usize),
-    Fill(usize),
     Short(usize),
     Range(usize),
     Listing(usize),
@@ -80,10 +76,6 @@ fn sound(fault: MapFault) -> bool
 {
     match fault {
         MapFault::None => true,
-        MapFault::Length => false,
-        MapFault::Checksum(_) => false,
-        MapFault::Head(_) => false,
-        MapFault::Fill(_) => false,
         MapFault::Short(_) => false,
         MapFault::Range(_) => false,
         MapFault::Listing(_) => false,

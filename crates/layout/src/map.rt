@@ -12,7 +12,7 @@ ghost use Rattle.layout.specs.Bytes.{held};
 ghost use Rattle.layout.specs.Zones.{zonesIn};
 ghost use Rattle.layout.specs.Found.{headsOf, ZonesAre};
 ghost use Rattle.layout.specs.Kinds.{Ready};
-ghost use Rattle.layout.specs.Map.{mapIn, Nothing, LayoutIs, MapIs};
+ghost use Rattle.layout.specs.Map.{Nothing, LayoutIs, MapIs};
 ghost use Rattle.layout.specs.Rest.{RestIs};
 
 // The lowest zone that is not of its kind.
@@ -81,7 +81,7 @@ fn refused(fault: MapFault) -> MapRead
     }
 }
 
-// Reads a map from a payload of m bytes.
+// Reads a map from a payload of m bytes; where it is refused, the rows are of no use.
 fn read_layout(file: &[u8], m: usize, rows: &mut [[u64; 2]; 128]) -> MapRead
     requires { ⌜ (m ≤ 65000) × (now rows ≡ blank) ⌝ }
     ensures { λ r. ⌜ LayoutIs (mapOf (held (now (file .entry)) m)) r (now (rows .exit)) ⌝ }
@@ -121,19 +121,11 @@ fn read_layout(file: &[u8], m: usize, rows: &mut [[u64; 2]; 128]) -> MapRead
     }
 }
 
-// Reads a map file: the map, with its edges in the rows; or why it is refused, with no edge in the rows.
-pub fn read_map(file: &[u8], rows: &mut [[u64; 2]; 128]) -> MapRead
-    ensures { λ r. ⌜ MapIs (mapIn (now (file .entry))) r (now (rows .exit)) ⌝ }
+// Reads a map from a payload of m bytes: the map, with its edges in the rows; or why it is refused, with no edge in the rows.
+pub fn read_map(file: &[u8], m: usize, rows: &mut [[u64; 2]; 128]) -> MapRead
+    requires { ⌜ (m ≤ 65000) × (now rows ≡ blank) ⌝ }
+    ensures { λ r. ⌜ MapIs (mapOf (held (now (file .entry)) m)) r (now (rows .exit)) ⌝ }
 {
-    adjacency::clear(rows);
-    let checked = wire::check_file(file, 1, 9);
-    let m = match checked {
-        wire::Checked::Payload(m) => m,
-        wire::Checked::Length => return refused(MapFault::Length),
-        wire::Checked::Checksum(i) => return refused(MapFault::Checksum(i)),
-        wire::Checked::Head(i) => return refused(MapFault::Head(i)),
-        wire::Checked::Fill(i) => return refused(MapFault::Fill(i)),
-    };
     let read = read_layout(file, m, rows);
     let fault = read.fault;
     if !crate::sound(fault) {

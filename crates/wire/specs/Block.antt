@@ -6,6 +6,7 @@ use mathlib.Core.List.{List, [], _∷_}
 use lib.ListN.{length, getD, take, drop}
 use lib.Seq.{take-nil, drop-cons, drop-drop, take-take, getD-drop, getD-take}
 use lib.Dec.{eqb, leb}
+use lib.Bits.{bitOr, or-zero-l, or-add-and, and-le-r}
 use borrow.Author.Tests.{leb-true, eqb-true, ne-eqb}
 use native.Mathlib.Numerals.{add-one}
 use native.Mathlib.Omega.{arith}
@@ -29,21 +30,35 @@ range-cons f o e h l =
     let s : e - o ≡ suc (e - suc o) = omega arith in
     rw (add-one o, s, drop-cons f o 0 h1)
 
--- a zero leaves the rest to test
-pub zeros-more : (f : List ℕ) (o e : ℕ) → o < e → e ≤ length f → getD f o 0 ≡ 0
-    → all (λ x. eqb x 0) (take (e - o) (drop o f)) ≡ all (λ x. eqb x 0) (take (e - (o + 1)) (drop (o + 1) f))
+-- a byte that is not 0 in front
+pub front-not : (b : ℕ) (rest : List ℕ) → (b ≡ 0 → ⊥) → all (λ x. eqb x 0) (b ∷ rest) ≡ false
 unfolding all
-zeros-more f o e h l z = rw (range-cons f o e h l, z)
+front-not b rest z = rw (all, ne-eqb b 0 z)
 
--- another byte ends the test
-pub zeros-not : (f : List ℕ) (o e : ℕ) → o < e → e ≤ length f → (getD f o 0 ≡ 0 → ⊥) → all (λ x. eqb x 0) (take (e - o) (drop o f)) ≡ false
-unfolding all
-zeros-not f o e h l z = rw (range-cons f o e h l, all, ne-eqb _ _ z)
+-- no bit is set at the start
+pub zeros-first : (b : Bool) → (eqb 0 0 && b) ≡ b
+unfolding _&&_
+zeros-first b = refl
+
+-- the bits of one byte more: none is set before, and the rest is zeros
+pub zeros-more : (f : List ℕ) (o e any : ℕ) → o < e → e ≤ length f
+    → (eqb any 0 && all (λ x. eqb x 0) (take (e - o) (drop o f))) ≡ (eqb (bitOr any (getD f o 0)) 0 && all (λ x. eqb x 0) (take (e - (o + 1)) (drop (o + 1) f)))
+unfolding all _&&_
+zeros-more f o e any h l = rw (range-cons f o e h l) (go any (getD f o 0) (take (e - (o + 1)) (drop (o + 1) f)))
+  where
+    go : (a b : ℕ) (rest : List ℕ) → (eqb a 0 && all (λ x. eqb x 0) (b ∷ rest)) ≡ (eqb (bitOr a b) 0 && all (λ x. eqb x 0) rest)
+    go zero zero rest = rw (or-zero-l 0)
+    go zero (suc b) rest = front-not (suc b) rest (λ z. omega (arith, z)) ∙ rw (or-zero-l (suc b), ne-eqb (suc b) 0 (λ z. omega (arith, z)))
+    go (suc a) b rest = rw (ne-eqb (suc a) 0 (λ z. omega (arith, z)), ne-eqb (bitOr (suc a) b) 0 (λ z. omega (arith, z, or-add-and (suc a) b, and-le-r (suc a) b)))
 
 -- nothing is left to test
-pub zeros-none : (f : List ℕ) (o e : ℕ) → e ≤ o → all (λ x. eqb x 0) (take (e - o) (drop o f)) ≡ true
-unfolding all
-zeros-none f o e h = let z : e - o ≡ 0 = omega arith in rw z
+pub zeros-none : (f : List ℕ) (o e any : ℕ) → e ≤ o → (eqb any 0 && all (λ x. eqb x 0) (take (e - o) (drop o f))) ≡ eqb any 0
+unfolding all _&&_
+zeros-none f o e any h = let z : e - o ≡ 0 = omega arith in rw z (go (eqb any 0))
+  where
+    go : (b : Bool) → (b && true) ≡ b
+    go true = refl
+    go false = refl
 
 -- ---- a block's parts, in the file
 

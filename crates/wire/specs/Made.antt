@@ -3,11 +3,11 @@ use Prim.Native.Nat.{ℕ, zero, suc, _+_, _-_, _/_, _%_, _≤_, _<_}
 use mathlib.Core.Path.{_≡_, refl, ap, sym, _∙_}
 use mathlib.Core.List.{List, [], _∷_, _++_, append-assoc, append-nil}
 use lib.ListN.{length, getD, take, drop, set, replicate, length-append, length-drop, length-replicate, take-append-drop, drop-of-length-le}
-use lib.Seq.{drop-cons, take-append-add, length-take-le, set-at, sets-eq, take-at, drop-length}
+use lib.Seq.{drop-cons, take-append-add, length-take-le, set-at, sets-eq, take-at, drop-length, getD-append-add}
 use native.Mathlib.Numerals.{add-one}
 use native.Mathlib.Omega.{arith}
 use Rattle.spec.specs.Outcome.{u16}
-use Rattle.spec.specs.Wire.{checksum, blockOf}
+use Rattle.spec.specs.Wire.{word, checksum, blockOf}
 
 -- zeros from `from` to before o
 abbrev pub cleared : List ℕ → ℕ → ℕ → List ℕ
@@ -74,14 +74,28 @@ body-length l kind i fill h p =
     let r : length {A = ℕ} (replicate (504 - length (take fill (drop 6 l))) 0) ≡ 504 - length (take fill (drop 6 l)) = length-replicate (504 - length (take fill (drop 6 l))) 0 in
     omega (arith, length-append (take fill (drop 6 l)) (replicate (504 - length (take fill (drop 6 l))) 0))
 
--- head and padding written make the body
+-- two zeros are the end of zeros
+rep-two : (n : ℕ) → replicate {A = ℕ} (suc (suc n)) 0 ≡ replicate n 0 ++ (0 ∷ 0 ∷ [])
+rep-two n = sym (append-nil {A = ℕ} (replicate (suc (suc n)) 0)) ∙ sym (rep-snoc (suc n) []) ∙ sym (rep-snoc n (0 ∷ []))
+
+-- head and padding written make the body, and zeros where its checksum will stand
 middle : (l : List ℕ) (kind i fill : ℕ) → length l ≡ 512 → fill ≤ 504
-    → cleared (headed l kind i fill) (6 + fill) 510 ≡ bodyOf kind i (take fill (drop 6 l)) ++ drop 504 (drop 6 l)
+    → cleared (headed l kind i fill) (6 + fill) 512 ≡ bodyOf kind i (take fill (drop 6 l)) ++ (0 ∷ 0 ∷ [])
 unfolding bodyOf u16
 middle l kind i fill h p =
-    let e : 510 - (6 + fill) ≡ 504 - fill = omega arith in
-    rw (headed-is l kind i fill h, part-length l fill h p, e)
-    (ap (λ (x : List ℕ). x ++ replicate (504 - fill) 0 ++ drop 504 (drop 6 l))
+    let e : 512 - (6 + fill) ≡ suc (suc (504 - fill)) = omega arith in
+    let n : drop 506 (drop 6 l) ≡ [] = drop-of-length-le (drop 6 l) {i = 506} (omega (arith, length-drop 6 l)) in
+    let t : List ℕ = take (6 + fill) ((kind ∷ 0 ∷ i / 256 % 256 ∷ i % 256 ∷ fill / 256 % 256 ∷ fill % 256 ∷ []) ++ drop 6 l) in
+    rw (
+      headed-is l kind i fill h,
+      part-length l fill h p,
+      e,
+      rep-two (504 - fill),
+      n,
+      append-nil (t ++ (replicate (504 - fill) 0 ++ (0 ∷ 0 ∷ []))),
+      ← append-assoc t (replicate (504 - fill) 0) (0 ∷ 0 ∷ []),
+    )
+    (ap (λ (x : List ℕ). x ++ replicate (504 - fill) 0 ++ (0 ∷ 0 ∷ []))
     (take-append-add (kind ∷ 0 ∷ i / 256 % 256 ∷ i % 256 ∷ fill / 256 % 256 ∷ fill % 256 ∷ []) (drop 6 l) fill))
 
 -- the checksum written behind the body
@@ -98,19 +112,28 @@ block-is : (kind i : ℕ) (part : List ℕ) → blockOf kind i part ≡ bodyOf k
 unfolding blockOf bodyOf
 block-is kind i part = refl
 
--- head, padding and checksum written make the block
-pub sealed : (l m : List ℕ) (kind i fill c : ℕ) → length l ≡ 512 → fill ≤ 504 → m ≡ cleared (headed l kind i fill) (6 + fill) 510
-    → c ≡ checksum (take 510 (drop 0 m))
-    → set (set m 510 (c / 256 % 256)) 511 (c % 256) ≡ blockOf kind i (take fill (drop 6 l))
-sealed l m kind i fill c h p e s =
-    let b : List ℕ = bodyOf kind i (take fill (drop 6 l)) in
-    let t : List ℕ = drop 504 (drop 6 l) in
-    let n : length b ≡ 510 = body-length l kind i fill h p in
-    let k : length (b ++ t) ≡ 512 = length-append b t ∙ omega (arith, length-drop 504 (drop 6 l), length-drop 6 l) in
-    let w : m ≡ b ++ t = e ∙ middle l kind i fill h p in
-    let z : c ≡ checksum b = s ∙ ap (λ (x : List ℕ). checksum (take 510 x)) w ∙ ap checksum (take-at b t 510 n) in
-    ap (λ (x : List ℕ). set (set x 510 (c / 256 % 256)) 511 (c % 256)) w
-    ∙ put-sum b t c n k z ∙ sym (block-is kind i (take fill (drop 6 l)))
+module _ (l m : List ℕ) (kind i fill : ℕ) (h : length l ≡ 512) (p : fill ≤ 504) (e : m ≡ cleared (headed l kind i fill) (6 + fill) 512) where
+  -- the word where the checksum will stand is 0
+  pub unstored : word m 510 ≡ 0
+  unfolding word
+  unstored =
+      let b : List ℕ = bodyOf kind i (take fill (drop 6 l)) in
+      let n : length b ≡ 510 = body-length l kind i fill h p in
+      let u : getD (b ++ (0 ∷ 0 ∷ [])) 510 0 ≡ 0 = rw n at (getD-append-add b (0 ∷ 0 ∷ []) 0 0) in
+      let v : getD (b ++ (0 ∷ 0 ∷ [])) 511 0 ≡ 0 = rw n at (getD-append-add b (0 ∷ 0 ∷ []) 1 0) in
+      rw (e ∙ middle l kind i fill h p) (omega (arith, u, v))
+
+  -- head, padding and checksum written make the block
+  pub sealed : (c : ℕ) → c ≡ checksum (take 510 (drop 0 m)) → set (set m 510 (c / 256 % 256)) 511 (c % 256) ≡ blockOf kind i (take fill (drop 6 l))
+  sealed c s =
+      let b : List ℕ = bodyOf kind i (take fill (drop 6 l)) in
+      let t : List ℕ = 0 ∷ 0 ∷ [] in
+      let n : length b ≡ 510 = body-length l kind i fill h p in
+      let k : length (b ++ t) ≡ 512 = length-append b t ∙ omega arith in
+      let w : m ≡ b ++ t = e ∙ middle l kind i fill h p in
+      let z : c ≡ checksum b = s ∙ ap (λ (x : List ℕ). checksum (take 510 x)) w ∙ ap checksum (take-at b t 510 n) in
+      ap (λ (x : List ℕ). set (set x 510 (c / 256 % 256)) 511 (c % 256)) w
+      ∙ put-sum b t c n k z ∙ sym (block-is kind i (take fill (drop 6 l)))
 
 -- how long a block is
 pub block-length : (kind i : ℕ) (part : List ℕ) → length part ≤ 504 → length (blockOf kind i part) ≡ 512

@@ -120,7 +120,7 @@ fn seal_block(b: &mut [u8], kind: u8, i: usize, fill: usize)
     b[3] = (i % 256) as u8;
     b[4] = (fill / 256 % 256) as u8;
     b[5] = (fill % 256) as u8;
-    clear(b, 6 + fill, 510);
+    clear(b, 6 + fill, 512);
     let c = checksum_at(b, 0);
     b[510] = (c / 256 % 256) as u8;
     b[511] = (c % 256) as u8;

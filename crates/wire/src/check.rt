@@ -9,15 +9,24 @@ ghost use Rattle.spec.specs.Wire.{headOk, filled, fillOk, payloadOf};
 ghost use Rattle.wire.specs.Block.{blockAt, sumOk};
 ghost use Rattle.wire.specs.Checked.{checkedOf, Held};
 use crate::Checked;
-use crate::checksum::checksum_at;
+use crate::checksum::total;
 use crate::checksum::word_at;
 
-// Is the stored checksum that of the block's other bytes?
+// Is the stored checksum that of the block's other bytes? It is where all words sum to a multiple of 65535; but 65535 itself is
+// stored for zeros alone.
 fn sum_ok(file: &[u8], at: usize) -> bool
     requires { ⌜ at + 512 ≤ length (now file) ⌝ }
     ensures { λ r. ⌜ r ≡ sumOk (blockAt (now (file .entry)) at) ⌝ }
 {
-    word_at(file, at + 510) == checksum_at(file, at)
+    let stored = word_at(file, at + 510);
+    if stored == 65535 {
+        return zeros(file, at, at + 510);
+    }
+    let s = total(file, at);
+    if s == 0 {
+        return false;
+    }
+    s % 65535 == 0
 }
 
 // Are bytes 0-3 the kind, zero, and the block's number i?
@@ -54,14 +63,13 @@ fn zeros(file: &[u8], from: usize, end: usize) -> bool
     requires { ⌜ (from ≤ «end») × («end» ≤ length (now file)) ⌝ }
     ensures { λ r. ⌜ r ≡ all (λ x. eqb x 0) (take («end» - from) (drop from (now (file .entry)))) ⌝ }
 {
+    let mut any: u8 = 0;
     let mut o = from;
     while o < end {
-        if file[o] != 0 {
-            return false;
-        }
+        any = any | file[o];
         o += 1;
     }
-    true
+    any == 0
 }
 
 // Is the fill allowed, and the padding after it zero?

@@ -34,28 +34,26 @@ fn little_at(file: &[u8], o: usize) -> usize
     a + b * 256 + c * 65536 + d * 16777216
 }
 
-// The 510 bytes at `at` summed with the low byte first, four bytes at once, in two sums that don't wait for each other.
+// The 512 bytes at `at` summed with the low byte first, four bytes at once, in two sums that don't wait for each other.
 // 256 times the result folds to the sum of the words: the order of the bytes doesn't matter to it (RFC 1071, 2 (B)).
-fn total(file: &[u8], at: usize) -> usize
-    requires { ⌜ at + 510 ≤ length (now file) ⌝ }
-    ensures { λ r. ⌜ (folded (r * 256) ≡ sumWords (take 510 (drop at (now (file .entry))))) × (r < 1099511627776) ⌝ }
+pub fn total(file: &[u8], at: usize) -> usize
+    requires { ⌜ at + 512 ≤ length (now file) ⌝ }
+    ensures { λ r. ⌜ (folded (r * 256) ≡ sumWords (take 512 (drop at (now (file .entry))))) × (r < 1099511627776) ⌝ }
 {
     let mut even: usize = 0;
     let mut odd: usize = 0;
     let mut o: usize = 0;
-    while o < 504 {
+    while o < 512 {
         even += little_at(file, at + o);
         odd += little_at(file, at + o + 4);
         o += 8;
     }
-    let a = wide(file[at + 508]);
-    let b = wide(file[at + 509]);
-    even + odd + little_at(file, at + 504) + a + b * 256
+    even + odd
 }
 
-// The checksum of the 510 bytes at `at`.
+// The checksum of the 510 bytes at `at`, where the two bytes after them are 0.
 pub fn checksum_at(file: &[u8], at: usize) -> usize
-    requires { ⌜ at + 510 ≤ length (now file) ⌝ }
+    requires { ⌜ (at + 512 ≤ length (now file)) × (word (now file) (at + 510) ≡ 0) ⌝ }
     ensures { λ r. ⌜ r ≡ checksum (take 510 (drop at (now (file .entry)))) ⌝ }
 {
     let s = total(file, at);

@@ -1,5 +1,5 @@
 use native.Mathlib.Omega.{arith}
-use mathlib.Core.Path.{sym}
+use mathlib.Core.Path.{refl, sym}
 use Rattle.wire.specs.Checked.{held-as}
 use Rattle.galzpuna.specs.Opened.{opened-yard, opened-file, opened-list, opened-all}
 use borrow.Author.Needs.{needs}
@@ -15,7 +15,7 @@ use Rattle.replay.proofs.check_moves.Reads as check-moves-reads
 use Rattle.wire.proofs.check_file.Reads as check-file-reads
 
 read-yard-requires : tie.Need-read-yard-requires
-read-yard-requires c κs = search needs
+read-yard-requires c κs = (c .before .before .before .before .pre, refl)
 
 refused-requires : tie.Need-refused-requires
 refused-requires c κs = search needs

@@ -9,9 +9,6 @@ use Rattle.galzpuna.proofs.refusals.of_map.Lts as lts
 enum-told : tie.Need-enum-told
 enum-told c = search needs
 
-enum-told-2 : tie.Need-enum-told-2
-enum-told-2 c = search needs
-
 enum-known-fault : tie.Need-enum-known-fault
 enum-known-fault c = search needs
 
@@ -27,66 +24,37 @@ enum-known-fault-4 c = search needs
 enum-known-fault-5 : tie.Need-enum-known-fault-5
 enum-known-fault-5 c = search needs
 
-enum-known-fault-6 : tie.Need-enum-known-fault-6
-enum-known-fault-6 c = search needs
-
-enum-known-fault-7 : tie.Need-enum-known-fault-7
-enum-known-fault-7 c = search needs
-
-enum-known-fault-8 : tie.Need-enum-known-fault-8
-enum-known-fault-8 c = search needs
-
 returns : tie.Need-returns
 returns c = λ x. sym (ap (λ f. answered f x) (c .enum-told .given .1))
 
 returns-2 : tie.Need-returns-2
-returns-2 c = λ x. sym (ap (λ f. answered f x) (c .enum-told2 .given .1))
+returns-2 c = λ x. sym (ap (λ f. answered f x) (c .before .fault .given .1))
 
 returns-3 : tie.Need-returns-3
-returns-3 c = λ x. sym (ap (λ f. answered f x) (c .before .fault .given .1))
+returns-3 c = λ x. sym (ap (λ f. answered f x) (c .before .fault2 .given .1))
 
 returns-4 : tie.Need-returns-4
-returns-4 c = λ x. sym (ap (λ f. answered f x) (c .before .fault2 .given .1))
+returns-4 c = λ x. sym (ap (λ f. answered f x) (c .before .fault3 .given .1))
 
 returns-5 : tie.Need-returns-5
-returns-5 c = λ x. sym (ap (λ f. answered f x) (c .before .fault3 .given .1))
+returns-5 c = λ x. sym (ap (λ f. answered f x) (c .before .fault4 .given .1))
 
 returns-6 : tie.Need-returns-6
-returns-6 c = λ x. sym (ap (λ f. answered f x) (c .before .fault4 .given .1))
-
-returns-7 : tie.Need-returns-7
-returns-7 c = λ x. sym (ap (λ f. answered f x) (c .before .fault5 .given .1))
-
-returns-8 : tie.Need-returns-8
-returns-8 c = λ x. sym (ap (λ f. answered f x) (c .before .fault6 .given .1))
-
-returns-9 : tie.Need-returns-9
-returns-9 c = λ x. sym (ap (λ f. answered f x) (c .before .fault7 .given .1))
-
-returns-10 : tie.Need-returns-10
-returns-10 c = λ x. sym (ap (λ f. answered f x) (c .before .fault8 .given .1))
+returns-6 c = λ x. sym (ap (λ f. answered f x) (c .before .fault5 .given .1))
 
 pub of-map-spec : {M : Type 1} → statement M
 of-map-spec =
     tie.close
     (tie.spec
     enum-told
-    enum-told-2
     enum-known-fault
     enum-known-fault-2
     enum-known-fault-3
     enum-known-fault-4
     enum-known-fault-5
-    enum-known-fault-6
-    enum-known-fault-7
-    enum-known-fault-8
     returns
     returns-2
     returns-3
     returns-4
     returns-5
-    returns-6
-    returns-7
-    returns-8
-    returns-9
-    returns-10)
+    returns-6)

@@ -1,68 +1,54 @@
-use mathlib.Core.Path.{_∙_}
-use native.Mathlib.Omega.{arith}
-use Rattle.galzpuna.specs.Services.{rounds-refused, rounds-delivered}
 use borrow.Author.Needs.{needs}
+use mathlib.Core.Path.{_∙_}
+use Rattle.galzpuna.specs.Opened.{chain-instance, filed-passed, filed-instance, filed-place}
+use Rattle.galzpuna.specs.Services.{rounds-chain}
 use Rattle.galzpuna.proofs.services.galzpuna_rounds.Statement.{statement}
 use Rattle.galzpuna.proofs.services.galzpuna_rounds.Tie as tie
-use Rattle.galzpuna.proofs.services.galzpuna_rounds.Reads as reads
-use Rattle.galzpuna.proofs.services.galzpuna_rounds.Lts as lts
-use Rattle.galzpuna.proofs.files.open_list.Reads as open-list-reads
-use Rattle.galzpuna.proofs.services.refuse.Reads as refuse-reads
-use Rattle.replay.proofs.write_rounds.Reads as write-rounds-reads
-use Rattle.wire.proofs.deliver.Reads as deliver-reads
-use Rattle.wire.proofs.put_word.Reads as put-word-reads
 
-open-list-requires : tie.Need-open-list-requires
-open-list-requires c κs = search needs
+check-file-requires : tie.Need-check-file-requires
+check-file-requires c κs = search needs
+
+of-map-file-requires : tie.Need-of-map-file-requires
+of-map-file-requires c κs = search needs
 
 refuse-requires : tie.Need-refuse-requires
-refuse-requires c κs = search needs
+refuse-requires c κs =
+    let k = c .before .before .before .check-file in
+    let f = c .before .before .of-map-file in
+    filed-place (c .before .before .before .before .before .before .before .before .args .map .now) (k .result) (k .ensures .0) (f .result .number) (f .result .place) (f .ensures .0) (c .before .if1 .taken)
 
 same-length : tie.Need-same-length
 same-length c = search needs
 
 returns : tie.Need-returns
 returns c =
-    c .before .before .refuse .ensures ∙ rounds-refused _ _ _ _ (c .before .before .before .before .before .before .open-list .ensures) (c .before .before .before .before .if1 .taken) (c .before .before .before .before .before .before .before .before .before .before .before .args .out .now)
+    let a = c .before .before .before .before .before .before .before .before .before .before .before .args in
+    let k = c .before .before .before .before .before .before .check-file in
+    let f = c .before .before .before .before .before .of-map-file in
+    let e = filed-instance (a .map .now) (k .result) (k .ensures .0) (f .result .number) (f .result .place) (f .ensures .0) (c .before .before .before .before .if1 .taken) (a .placing .now) in
+    c .before .before .refuse .ensures ∙ rounds-chain (a .map .now) (a .placing .now) (a .moves .now) (f .result .number) (f .result .place) (λ K. chain-instance (a .map .now) (a .placing .now) (a .moves .now) K (f .result .number) (f .result .place) e) (a .out .now)
 
-write-rounds-requires : tie.Need-write-rounds-requires
-write-rounds-requires c κs =
-    c .before .before .before .open-list .ensures .opened (c .before .if1 .left) .few
-
-put-word-requires : tie.Need-put-word-requires
-put-word-requires c κs = search needs
-
-mul-deliver : tie.Need-mul-deliver
-mul-deliver c =
-    let l = c .before .before .before .before .before .before .before .before .before .before .before .open-list .ensures .opened (c .before .before .before .before .before .before .before .before .before .if1 .left) in record { fits = omega (arith, l .few) }
-
-add-deliver : tie.Need-add-deliver
-add-deliver c =
-    let l = c .before .before .before .before .before .before .before .before .before .before .before .open-list .ensures .opened (c .before .before .before .before .before .before .before .before .before .if1 .left) in record { fits = omega (arith, l .few) }
-
-deliver-requires : tie.Need-deliver-requires
-deliver-requires c κs = search needs
+rounds-checked-requires : tie.Need-rounds-checked-requires
+rounds-checked-requires c κs =
+    let k = c .before .before .before .check-file in
+    let f = c .before .before .of-map-file in
+    filed-passed (c .before .before .before .before .before .before .before .before .args .map .now) (k .result) (k .ensures .0) (f .result .number) (f .result .place) (f .ensures .0) (k .ensures .1) (f .ensures .1) (c .before .if1 .left)
 
 same-length-2 : tie.Need-same-length-2
 same-length-2 c = search needs
 
 returns-2 : tie.Need-returns-2
-returns-2 c =
-    let l = c .before .before .before .before .before .before .before .before .before .before .before .before .before .before .open-list .ensures .opened (c .before .before .before .before .before .before .before .before .before .before .before .before .if1 .left) in
-    rounds-delivered _ _ _ _ _ _ l _ _ _ _ (c .before .before .before .before .before .before .before .before .before .before .write-rounds .ensures) (c .before .before .before .before .before .before .put-word .ensures) (c .before .before .deliver .ensures)
+returns-2 c = search needs
 
 pub galzpuna-rounds-spec : {M : Type 1} → statement M
 galzpuna-rounds-spec =
     tie.close
     (tie.spec
-    open-list-requires
+    check-file-requires
+    of-map-file-requires
     refuse-requires
     same-length
     returns
-    write-rounds-requires
-    put-word-requires
-    mul-deliver
-    add-deliver
-    deliver-requires
+    rounds-checked-requires
     same-length-2
     returns-2)

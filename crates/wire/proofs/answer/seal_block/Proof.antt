@@ -1,5 +1,5 @@
 -- `seal_block`: head, padding and checksum make the block (`sealed`).
-use Rattle.wire.specs.Made.{sealed}
+use Rattle.wire.specs.Made.{unstored, sealed}
 use borrow.Author.Needs.{needs}
 use native.Mathlib.Omega.{arith}
 use mathlib.Core.Path.{_≡_, _∙_}
@@ -44,7 +44,10 @@ clear-requires : tie.Need-clear-requires
 clear-requires c κs = simp length-set (omega arith)
 
 checksum-at-requires : tie.Need-checksum-at-requires
-checksum-at-requires c κs = let k : length (c .before .before .before .clear .last .0) ≡ 512 = c .before .before .before .clear .kept .0 ∙ simp length-set (omega arith) in omega arith
+checksum-at-requires c κs =
+    let a = c .before .before .before .before .before .before .args in
+    let k : length (c .before .before .before .clear .last .0) ≡ 512 = c .before .before .before .clear .kept .0 ∙ simp length-set (omega arith) in
+    (omega arith, unstored (a .b .now) (c .before .before .before .clear .last .0) (a .kind) (a .i) (a .fill) (omega arith) (omega arith) (c .before .before .before .clear .ensures))
 
 cast-b-5 : tie.Need-cast-b-5
 cast-b-5 c = search needs
@@ -64,7 +67,7 @@ same-length c = let k : length (c .before .before .before .before .clear .last .
 returns : tie.Need-returns
 returns c =
     let a = c .before .before .before .before .before .before .before .args in
-    sealed (a .b .now) (c .before .before .before .before .clear .last .0) (a .kind) (a .i) (a .fill) (c .checksum-at .result) (omega arith) (omega arith) (c .before .before .before .before .clear .ensures) (c .checksum-at .ensures)
+    sealed (a .b .now) (c .before .before .before .before .clear .last .0) (a .kind) (a .i) (a .fill) (omega arith) (omega arith) (c .before .before .before .before .clear .ensures) (c .checksum-at .result) (c .checksum-at .ensures)
 
 pub seal-block-spec : {M : Type 1} → statement M
 seal-block-spec =

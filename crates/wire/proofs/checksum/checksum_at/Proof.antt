@@ -1,9 +1,9 @@
 -- `checksum_at`: the sum is folded by one rest, but for a sum of 0.
 use borrow.Author.Needs.{needs}
 use native.Mathlib.Omega.{arith}
-use mathlib.Core.Path.{sym}
+use mathlib.Core.Path.{sym, _∙_}
 use lib.ListN.{take, drop}
-use Rattle.wire.specs.Sum.{checksum-zero, checksum-more}
+use Rattle.wire.specs.Sum.{sum-unstored, checksum-zero, checksum-more}
 use Rattle.wire.proofs.checksum.checksum_at.Statement.{statement}
 use Rattle.wire.proofs.checksum.checksum_at.Tie as tie
 
@@ -13,7 +13,8 @@ total-requires c κs = search needs
 returns : tie.Need-returns
 returns c =
     let a = c .before .before .before .args in
-    sym (checksum-zero (take 510 (drop (a .at) (a .file .now))) (c .before .total .result) (c .before .total .ensures .0) (c .if1 .taken))
+    let e = c .before .total .ensures .0 ∙ sum-unstored (a .file .now) (a .at) (λ i. omega (arith, c .before .before .shared-slice-known .given i)) (c .before .before .before .pre .0) (c .before .before .before .pre .1) in
+    sym (checksum-zero (take 510 (drop (a .at) (a .file .now))) (c .before .total .result) e (c .if1 .taken))
 
 mul-result : tie.Need-mul-result
 mul-result c = search needs
@@ -27,7 +28,8 @@ sub-result-2 c = search needs
 returns-2 : tie.Need-returns-2
 returns-2 c =
     let a = c .before .before .before .args in
-    sym (checksum-more (take 510 (drop (a .at) (a .file .now))) (c .before .total .result) (c .before .total .ensures .0) (omega arith))
+    let e = c .before .total .ensures .0 ∙ sum-unstored (a .file .now) (a .at) (λ i. omega (arith, c .before .before .shared-slice-known .given i)) (c .before .before .before .pre .0) (c .before .before .before .pre .1) in
+    sym (checksum-more (take 510 (drop (a .at) (a .file .now))) (c .before .total .result) e (omega arith))
 
 pub checksum-at-spec : {M : Type 1} → statement M
 checksum-at-spec = tie.close (tie.spec total-requires returns mul-result sub-result sub-result-2 returns-2)

@@ -5,21 +5,20 @@ use Prim.Native.Nat.{_+_, _-_, _*_, _%_, _≤_}
 use mathlib.Core.Path.{_≡_, sym, _∙_}
 use lib.ListN.{take, drop}
 use Rattle.spec.specs.Wire.{sumWords}
-use Rattle.wire.specs.Sum.{folded, plain, fold-none, fold-eight, fold-six}
+use Rattle.wire.specs.Sum.{folded, plain, fold-none, fold-eight, fold-all}
 use Rattle.wire.proofs.checksum.total.Statement.{statement}
 use Rattle.wire.proofs.checksum.total.Tie as tie
 
 abbrev Inv-loop : tie.InvT-loop
 Inv-loop file at even₀ odd₀ o₀ even odd o =
-    (o ≤ 504) × (o % 8 ≡ 0) × (even * 8 ≤ 4294967295 * o) × (odd * 8 ≤ 4294967295 * o)
-    × (folded ((even + odd) * 256 + plain (take (510 - o) (drop (at + o) file))) ≡ sumWords (take 510 (drop at file)))
+    (o ≤ 512) × (o % 8 ≡ 0) × (even * 8 ≤ 4294967295 * o) × (odd * 8 ≤ 4294967295 * o)
+    × (folded ((even + odd) * 256 + plain (take (512 - o) (drop (at + o) file))) ≡ sumWords (take 512 (drop at file)))
 
 abbrev μ-loop : tie.MeasureT-loop
-μ-loop file at even₀ odd₀ o₀ even odd o = 504 - o
+μ-loop file at even₀ odd₀ o₀ even odd o = 512 - o
 
 loop-holds : tie.Need-loop-holds Inv-loop μ-loop
-loop-holds c =
-    (search needs, search needs, search needs, search needs, fold-none (c .before .args .file .now) (c .before .args .at) (λ i. omega (arith, c .shared-slice-known .given i)))
+loop-holds c = (search needs, search needs, search needs, search needs, fold-none (c .before .args .file .now) (c .before .args .at) (λ i. omega (arith, c .shared-slice-known .given i)))
 
 add-little-at : tie.Need-add-little-at Inv-loop μ-loop
 add-little-at c = search needs
@@ -53,65 +52,23 @@ loop-again c =
     let a = c .before .before .before .before .before .args in
     let l = c .before .before .before .loop in
     let p : a .at + l .o + 8 ≡ a .at + (l .o + 8) = omega arith in
-    let n : 510 - l .o - 8 ≡ 510 - (l .o + 8) = omega arith in (
+    let n : 512 - l .o - 8 ≡ 512 - (l .o + 8) = omega arith in (
       search needs,
       search needs,
       search needs,
       search needs,
       rw (c .before .little-at .ensures .0, c .little-at2 .ensures .0, ← p, ← n)
-          (sym (fold-eight (a .file .now) (l .even) (l .odd) (a .at + l .o) (510 - l .o) (omega arith) (omega arith)) ∙ l .inv .4),
+          (sym (fold-eight (a .file .now) (l .even) (l .odd) (a .at + l .o) (512 - l .o) (omega arith) (omega arith)) ∙ l .inv .4),
     )
-
-add-wide : tie.Need-add-wide Inv-loop μ-loop
-add-wide c = search needs
-
-shared-slice-read-wide : tie.Need-shared-slice-read-wide Inv-loop μ-loop
-shared-slice-read-wide c = search needs
-
-wide-requires : tie.Need-wide-requires Inv-loop μ-loop
-wide-requires c κs = search needs
-
-add-wide-2 : tie.Need-add-wide-2 Inv-loop μ-loop
-add-wide-2 c = search needs
-
-shared-slice-read-wide-2 : tie.Need-shared-slice-read-wide-2 Inv-loop μ-loop
-shared-slice-read-wide-2 c = search needs
-
-wide-requires-2 : tie.Need-wide-requires-2 Inv-loop μ-loop
-wide-requires-2 c κs = search needs
 
 add-result : tie.Need-add-result Inv-loop μ-loop
 add-result c = search needs
 
-add-little-at-4 : tie.Need-add-little-at-4 Inv-loop μ-loop
-add-little-at-4 c = search needs
-
-little-at-requires-3 : tie.Need-little-at-requires-3 Inv-loop μ-loop
-little-at-requires-3 c κs = search needs
-
-add-result-2 : tie.Need-add-result-2 Inv-loop μ-loop
-add-result-2 c = search needs
-
-add-result-3 : tie.Need-add-result-3 Inv-loop μ-loop
-add-result-3 c = search needs
-
-mul-result : tie.Need-mul-result Inv-loop μ-loop
-mul-result c = search needs
-
-add-result-4 : tie.Need-add-result-4 Inv-loop μ-loop
-add-result-4 c = search needs
-
 returns : tie.Need-returns Inv-loop μ-loop
 returns c =
-    let a = c .before .before .before .before .before .before .before .before .args in
-    let l = c .before .before .before .before .before .before .loop in
-    let e : l .o ≡ 504 = omega arith in
-    let p : a .at + 504 + 4 ≡ a .at + 508 = omega arith in
-    let q : a .at + 504 + 5 ≡ a .at + 509 = omega arith in (
-      rw (c .little-at3 .ensures .0, c .before .before .before .wide .ensures .0, c .before .wide2 .ensures .0, ← p, ← q)
-          (sym (fold-six (a .file .now) (l .even + l .odd) (a .at + 504) (omega arith)) ∙ rw e at (l .inv .4)),
-      search needs,
-    )
+    let a = c .before .before .before .args in
+    let l = c .before .loop in
+    (sym (fold-all (drop (a .at + l .o) (a .file .now)) (l .even + l .odd) (512 - l .o) (omega arith)) ∙ l .inv .4, search needs)
 
 pub total-spec : {M : Type 1} → statement M
 total-spec =
@@ -130,17 +87,5 @@ total-spec =
     add-o
     loop-less
     loop-again
-    add-wide
-    shared-slice-read-wide
-    wide-requires
-    add-wide-2
-    shared-slice-read-wide-2
-    wide-requires-2
     add-result
-    add-little-at-4
-    little-at-requires-3
-    add-result-2
-    add-result-3
-    mul-result
-    add-result-4
     returns)
