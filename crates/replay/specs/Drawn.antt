@@ -16,6 +16,7 @@ use Rattle.spec.specs.ZoneKind.{behindOf}
 use Rattle.spec.specs.State.{State, Step, moved, arrangementOf, stepOf, drawnSteps, stepBytes}
 use Rattle.spec.specs.Terms.{Stands}
 use Rattle.theory.specs.Maps.Layout.{Accepted}
+use Rattle.layout.specs.declared.MapFault.{MapFault}
 use Rattle.layout.specs.declared.MapRead.{MapRead}
 use Rattle.layout.specs.Map.{MapHeld}
 use Rattle.layout.specs.Tables.{entryOf, entry-is}
@@ -88,6 +89,15 @@ module _ (m : Map) (byte : ℕ → ℕ) (n : ℕ) (s₀ : State) (o₀ : List �
 
 -- ---- one move
 
+-- the map whose tables are lent one by one
+abbrev pub lentMap : MapFault → ℕ → ℕ → (kind first size listed zone place : List ℕ) → MapRead
+lentMap f n z kind first size listed zone place =
+    record { fault = f; vertices = n; zones = z; kind = kind; first = first; size = size; listed = listed; zone = zone; place = place }
+
+pub lent-held : (map : MapRead) (listed : List ℕ) (m : Map) → listed ≡ map .listed → MapHeld map m
+    → MapHeld (lentMap (map .fault) (map .vertices) (map .zones) (map .kind) (map .first) (map .size) listed (map .zone) (map .place)) m
+lent-held map listed m e h = rw e h
+
 -- what a move does to the drawing: nothing inside a zone, else its step is laid
 pub record MoveDrawn (m : Map) (s : State) (x : Move) (d : Drawn) (o : List ℕ) (q : Drawn) (o′ : List ℕ) : Type 0 where
   pub inside : zoneOf m (x .from) ≡ zoneOf m (x .to) → (q .steps ≡ d .steps) × (q .bytes ≡ d .bytes) × (o′ ≡ o)
@@ -129,10 +139,6 @@ part-in l a e h = rw (le-leb e (length l) h, partOf)
 pub part-out : (l : List ℕ) (a e : ℕ) → length l < e → [] ≡ partOf l a e
 unfolding partOf
 part-out l a e h = rw (lt-leb e (length l) h, partOf)
-
--- the part of the same listing
-pub part-same : (l k vs : List ℕ) (a e : ℕ) → vs ≡ partOf l a e → l ≡ k → vs ≡ partOf k a e
-part-same l k vs a e h q = h ∙ ap (λ (x : List ℕ). partOf x a e) q
 
 part-is : (l : List ℕ) (a n : ℕ) → a + n ≤ length l → partOf l a (a + n) ≡ take n (drop a l)
 part-is l a n h = let e : a + n - a ≡ n = omega arith in sym (part-in l a (a + n) h) ∙ ap (λ (k : ℕ). take k (drop a l)) e

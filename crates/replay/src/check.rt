@@ -74,12 +74,12 @@ fn replay_moves(
     ensures { λ q. ⌜ ((m : Map) → m .size ≡ n → Shows (now (rows .entry)) (m .edges) → ReplayOf m k (take len (payload (now (file .entry)))) count (tabled (now (robots .entry)) (now (vertices .entry))) q (tabled (now (robots .exit)) (now (vertices .exit)))) ⌝ }
 {
     let mut i: usize = 0;
+    let mut at: usize = 8;
     while i < count {
-        let at = i * 3;
-        if len < 5 + at {
+        if len < 5 + i * 3 {
             return MoveList::Short(i);
         }
-        let x = wire::payload_three(file, 2 + at);
+        let x = wire::three_from(file, at);
         match fault_of(robots, rows, n, k, x.first, x.second, x.third) {
             Fault::Number => {
                 return MoveList::Number(i);
@@ -99,6 +99,7 @@ fn replay_moves(
             Vertex(x.second),
             Vertex(x.third),
         );
+        at = wire::place_after(at);
         i += 1;
     }
     MoveList::Legal(count)

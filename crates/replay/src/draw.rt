@@ -1,15 +1,16 @@
 // The plan drawn from a checked list: a step for each move between zones.
 ghost use mathlib.Core.Path.{_≡_};
-ghost use Prim.Native.Nat.{_+_, _≤_, _<_};
+ghost use Prim.Native.Nat.{ℕ, _+_, _≤_, _<_};
 ghost use lib.ListN.{length};
 ghost use Rattle.spec.specs.Layout.{Map};
 ghost use Rattle.spec.specs.Arrangement.{mv};
 ghost use Rattle.theory.specs.Maps.Layout.{Accepted};
+ghost use Rattle.layout.specs.declared.MapFault.{MapFault};
 ghost use Rattle.layout.specs.Map.{MapHeld};
 ghost use Rattle.wire.specs.Laid.{laidAll};
 ghost use Rattle.motion.specs.States.{stateOf, movedBy};
 ghost use Rattle.motion.specs.Tables.{tabled, onVertices};
-ghost use Rattle.replay.specs.Drawn.{MoveDrawn, partOf, EndsOn, AllDrawn};
+ghost use Rattle.replay.specs.Drawn.{lentMap, MoveDrawn, partOf, EndsOn, AllDrawn};
 ghost use Rattle.replay.specs.Moves.{fileBytes, threeMove};
 ghost use Rattle.replay.specs.Follow.{seated, followed, stepFrom};
 use crate::Drawn;
@@ -82,7 +83,11 @@ fn part_of(listed: &[u8], a: usize, e: usize) -> &[u8]
 fn draw_move(
     d: Drawn,
     robots: &[u8],
-    map: MapRead,
+    zone: &[u8; 128],
+    kinds: &[u8; 64],
+    firsts: &[u8; 64],
+    sizes: &[u8; 64],
+    place: &[u8; 128],
     listed: &[u8],
     r: u8,
     u: u8,
@@ -90,27 +95,22 @@ fn draw_move(
     out: &mut [u8],
 ) -> Drawn
     requires { ⌜ (d .steps < 65536) × (d .bytes < 4294967040) ⌝ }
-    ensures { λ q. ⌜ ((m : Map) → MapHeld map m → now (listed .entry) ≡ map .listed → v < m .size → Accepted m → MoveDrawn m (onVertices (now (robots .entry))) (mv r u v) d (now (out .entry)) q (now (out .exit))) ⌝ }
+    ensures { λ q. ⌜ ((f : MapFault) (n z : ℕ) (m : Map) → MapHeld (lentMap f n z (now (kinds .entry)) (now (firsts .entry)) (now (sizes .entry)) (now (listed .entry)) (now (zone .entry)) (now (place .entry))) m → v < m .size → Accepted m → MoveDrawn m (onVertices (now (robots .entry))) (mv r u v) d (now (out .entry)) q (now (out .exit))) ⌝ }
     ensures { λ q. ⌜ (q .steps ≤ d .steps + 1) × (q .bytes ≤ d .bytes + 132) ⌝ }
 {
-    let zone = map.zone;
-    let x = layout::tables::zone_of(&zone, Vertex(u));
-    let y = layout::tables::zone_of(&zone, Vertex(v));
+    let x = layout::tables::zone_of(zone, Vertex(u));
+    let y = layout::tables::zone_of(zone, Vertex(v));
     if x.0 == y.0 {
         return d;
     }
-    let kinds = map.kind;
-    let firsts = map.first;
-    let sizes = map.size;
-    let kind = layout::tables::zone_entry(&kinds, y);
-    let a = layout::tables::zone_entry(&firsts, y) as usize;
-    let n = layout::tables::zone_entry(&sizes, y) as usize;
+    let kind = layout::tables::zone_entry(kinds, y);
+    let a = layout::tables::zone_entry(firsts, y) as usize;
+    let n = layout::tables::zone_entry(sizes, y) as usize;
     let e = a + n;
     if e > 128 {
         return d;
     }
-    let place = map.place;
-    let j = layout::tables::place_of(&place, Vertex(v)) as usize;
+    let j = layout::tables::place_of(place, Vertex(v)) as usize;
     if j >= n {
         return d;
     }
@@ -132,7 +132,11 @@ fn next_step(
     d: Drawn,
     robots: &mut [u8],
     vertices: &mut [u8],
-    map: MapRead,
+    zone: &[u8; 128],
+    kinds: &[u8; 64],
+    firsts: &[u8; 64],
+    sizes: &[u8; 64],
+    place: &[u8; 128],
     listed: &[u8],
     last: Three,
     x: Three,
@@ -140,7 +144,7 @@ fn next_step(
 ) -> Drawn
     requires { ⌜ (d .steps < 65536) × (d .bytes < 4294967040) ⌝ }
     ensures { λ q. ⌜ tabled (now (robots .exit)) (now (vertices .exit)) ≡ movedBy (tabled (now (robots .entry)) (now (vertices .entry))) (threeMove last) ⌝ }
-    ensures { λ q. ⌜ ((m : Map) → MapHeld map m → now (listed .entry) ≡ map .listed → x .third < m .size → Accepted m → MoveDrawn m (movedBy (tabled (now (robots .entry)) (now (vertices .entry))) (threeMove last)) (threeMove x) d (now (out .entry)) q (now (out .exit))) ⌝ }
+    ensures { λ q. ⌜ ((f : MapFault) (n z : ℕ) (m : Map) → MapHeld (lentMap f n z (now (kinds .entry)) (now (firsts .entry)) (now (sizes .entry)) (now (listed .entry)) (now (zone .entry)) (now (place .entry))) m → x .third < m .size → Accepted m → MoveDrawn m (movedBy (tabled (now (robots .entry)) (now (vertices .entry))) (threeMove last)) (threeMove x) d (now (out .entry)) q (now (out .exit))) ⌝ }
     ensures { λ q. ⌜ (q .steps ≤ d .steps + 1) × (q .bytes ≤ d .bytes + 132) ⌝ }
 {
     motion::shift(
@@ -150,7 +154,20 @@ fn next_step(
         Vertex(last.second),
         Vertex(last.third),
     );
-    draw_move(d, robots, map, listed, x.first, x.second, x.third, out)
+    draw_move(
+        d,
+        robots,
+        zone,
+        kinds,
+        firsts,
+        sizes,
+        place,
+        listed,
+        x.first,
+        x.second,
+        x.third,
+        out,
+    )
 }
 
 // Lays the steps of the list's first `count` moves, made from state s, after the two bytes of the count. Robot 255 and vertex
@@ -170,17 +187,37 @@ pub fn draw_moves(
     let mut vertices = [255u8; 64];
     motion::robots_of(s, &mut robots);
     motion::vertices_of(s, &mut vertices);
+    let zone = map.zone;
+    let kinds = map.kind;
+    let firsts = map.first;
+    let sizes = map.size;
+    let place = map.place;
     let mut last = Three {
         first: 255,
         second: 255,
         third: 255,
     };
     let mut d = Drawn { steps: 0, bytes: 2 };
+    let mut at: usize = 8;
     let mut i: usize = 0;
     while i < count {
-        let x = wire::payload_three(file, 2 + i * 3);
-        d = next_step(d, &mut robots, &mut vertices, map, &listed, last, x, out);
+        let x = wire::three_from(file, at);
+        d = next_step(
+            d,
+            &mut robots,
+            &mut vertices,
+            &zone,
+            &kinds,
+            &firsts,
+            &sizes,
+            &place,
+            &listed,
+            last,
+            x,
+            out,
+        );
         last = x;
+        at = wire::place_after(at);
         i += 1;
     }
     d

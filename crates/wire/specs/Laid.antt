@@ -5,6 +5,7 @@ use mathlib.Core.List.{List, [], _∷_, _++_}
 use lib.ListN.{length, getD, take, set, length-set}
 use lib.Seq.{set-out, set-comm, getD-set-same, getD-set-other, ext-getD}
 use native.Mathlib.Omega.{arith}
+use Rattle.spec.specs.Outcome.{u16}
 use Rattle.wire.specs.Payload.{payload, placeOf, held-length, held-byte}
 
 -- byte b laid as byte `off` of the payload
@@ -37,6 +38,18 @@ laid-append o off (x ∷ xs) ys =
 -- two bytes that one block holds stand side by side
 pub laid-two : (o : List ℕ) (off a b : ℕ) → off % 504 < 503 → set (set o (placeOf off) a) (placeOf off + 1) b ≡ laidAll o off (a ∷ b ∷ [])
 laid-two o off a b h = let e : placeOf off + 1 ≡ placeOf (off + 1) = omega arith in ap (λ (i : ℕ). set (set o (placeOf off) a) i b) e
+
+-- the two bytes of a number that one block holds, from their place `at` on: both in the buffer, one, or none
+module _ (o : List ℕ) (at n off : ℕ) (e : at ≡ placeOf off) (h : off % 504 < 503) where
+  pub word-within : set (set o at (n / 256 % 256)) (at + 1) (n % 256) ≡ laidAll o off (u16 n)
+  unfolding u16
+  word-within = rw e (laid-two o off (n / 256 % 256) (n % 256) h)
+
+  pub word-cut : length o ≤ at + 1 → set o at (n / 256 % 256) ≡ laidAll o off (u16 n)
+  word-cut l = sym (set-out (set o at (n / 256 % 256)) (at + 1) (n % 256) (simp length-set l)) ∙ word-within
+
+  pub word-past : length o ≤ at → o ≡ laidAll o off (u16 n)
+  word-past l = sym (set-out o at (n / 256 % 256) l) ∙ word-cut (omega arith)
 
 -- three bytes that one block holds stand side by side
 pub laid-three : (o : List ℕ) (off a b c : ℕ) → off % 504 < 502

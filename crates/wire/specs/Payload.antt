@@ -42,14 +42,6 @@ pub record ThreeAt (f : List ℕ) (off : ℕ) (t : Three) : Type 0 where
   pub second : t .second ≡ getD f (placeOf (off + 1)) 0
   pub third : t .third ≡ getD f (placeOf (off + 2)) 0
 
--- past the file's end they are 0
-pub three-out : (f : List ℕ) (off : ℕ) → length f ≤ off → ThreeAt f off (record { first = 0; second = 0; third = 0 })
-three-out f off h = record {
-  first = sym (List·getD-eq-default f 0 {n = placeOf off} (omega arith));
-  second = sym (List·getD-eq-default f 0 {n = placeOf (off + 1)} (omega arith));
-  third = sym (List·getD-eq-default f 0 {n = placeOf (off + 2)} (omega arith));
-}
-
 -- each is read at its place
 pub three-read : (f : List ℕ) (off p q s a b c : ℕ) → p ≡ placeOf off → q ≡ placeOf (off + 1) → s ≡ placeOf (off + 1 + 1)
     → a ≡ getD f p 0 → b ≡ getD f q 0 → c ≡ getD f s 0 → ThreeAt f off (record { first = a; second = b; third = c })

@@ -2,11 +2,11 @@
 ghost use mathlib.Core.Path.{_≡_};
 ghost use mathlib.Core.List.{[], _∷_, _++_};
 ghost use mathlib.Core.Logic.{_⊎_};
-ghost use Prim.Native.Nat.{_+_, _-_, _*_, _/_, _<_, _≤_};
+ghost use Prim.Native.Nat.{ℕ, _+_, _-_, _*_, _/_, _%_, _<_, _≤_};
 ghost use lib.ListN.{length, take, drop, replicate};
 ghost use Rattle.spec.specs.Outcome.{u16};
 ghost use Rattle.spec.specs.Wire.{blockOf, fileOf};
-ghost use Rattle.wire.specs.Payload.{payload};
+ghost use Rattle.wire.specs.Payload.{payload, placeOf};
 ghost use Rattle.wire.specs.Laid.{laid, laidAll};
 ghost use Rattle.wire.specs.Delivered.{answered, deliveredOf};
 use crate::Delivered;
@@ -54,6 +54,34 @@ pub fn put_word(out: &mut [u8], off: usize, n: usize)
     }
     out[at] = (n / 256 % 256) as u8;
     out[at + 1] = (n % 256) as u8;
+}
+
+// Puts n to place `at` of the buffer as a two-byte number that one block holds.
+pub fn put_word_at(out: &mut [u8], at: usize, n: u16)
+    requires { ⌜ at < 4611686018427387904 ⌝ }
+    ensures { λ r. ⌜ ((off : ℕ) → at ≡ placeOf off → off % 504 < 503 → now (out .exit) ≡ laidAll (now (out .entry)) off (u16 n)) ⌝ }
+{
+    let high = (n / 256 % 256) as u8;
+    let low = (n % 256) as u8;
+    if at + 1 < out.len() {
+        out[at] = high;
+        out[at + 1] = low;
+        return;
+    }
+    if at < out.len() {
+        out[at] = high;
+    }
+}
+
+// Where the next two-byte number stands, after one at `at` that one block holds.
+pub fn word_after(at: usize) -> usize
+    requires { ⌜ at < 4611686018427387904 ⌝ }
+    ensures { λ r. ⌜ ((off : ℕ) → at ≡ placeOf off → off % 504 < 503 → r ≡ placeOf (off + 2)) ⌝ }
+{
+    if at % 512 == 508 {
+        return at + 10;
+    }
+    at + 2
 }
 
 // Puts three bytes to their places from `off` on, one by one.

@@ -14,13 +14,16 @@ pub use answer::deliver;
 pub use answer::put_byte;
 pub use answer::put_three;
 pub use answer::put_word;
+pub use answer::put_word_at;
+pub use answer::word_after;
 pub use answer::zero;
 pub use check::check_file;
 pub use payload::byte_at;
 pub use payload::next_place;
 pub use payload::payload_byte;
-pub use payload::payload_three;
 pub use payload::payload_word;
+pub use payload::place_after;
+pub use payload::three_from;
 
 // What a file is: a payload of so many bytes, or which of document 01's four refusals at which block.
 pub enum Checked {

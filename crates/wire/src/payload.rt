@@ -51,18 +51,11 @@ pub fn next_place(at: usize) -> usize
     at + 1
 }
 
-// Three bytes of the payload from `off` on, as those of a move: one division for the three.
-pub fn payload_three(file: &[u8], off: usize) -> Three
-    ensures { λ r. ⌜ ThreeAt (now (file .entry)) off r ⌝ }
+// Three bytes of the payload from place `at` of the file on, each found from the one before.
+fn three_apart(file: &[u8], at: usize) -> Three
+    requires { ⌜ at < 4611686018427387904 ⌝ }
+    ensures { λ r. ⌜ ((off : ℕ) → at ≡ placeOf off → ThreeAt (now (file .entry)) off r) ⌝ }
 {
-    if file.len() <= off {
-        return Three {
-            first: 0,
-            second: 0,
-            third: 0,
-        };
-    }
-    let at = off + off / 504 * 8 + 6;
     let next = next_place(at);
     let last = next_place(next);
     let a = byte_at(file, at);
@@ -73,4 +66,37 @@ pub fn payload_three(file: &[u8], off: usize) -> Three
         second: b,
         third: c,
     }
+}
+
+// Three bytes of the payload from place `at` of the file on, as those of a move: at once where one block and the file have all
+// three.
+pub fn three_from(file: &[u8], at: usize) -> Three
+    requires { ⌜ at < 4611686018427387904 ⌝ }
+    ensures { λ r. ⌜ ((off : ℕ) → at ≡ placeOf off → ThreeAt (now (file .entry)) off r) ⌝ }
+{
+    if at % 512 > 507 {
+        return three_apart(file, at);
+    }
+    if file.len() <= at + 2 {
+        return three_apart(file, at);
+    }
+    let a = file[at];
+    let b = file[at + 1];
+    let c = file[at + 2];
+    Three {
+        first: a,
+        second: b,
+        third: c,
+    }
+}
+
+// Where the payload byte stands that is three after the one at `at`.
+pub fn place_after(at: usize) -> usize
+    requires { ⌜ at < 4611686018427387904 ⌝ }
+    ensures { λ r. ⌜ ((off : ℕ) → at ≡ placeOf off → r ≡ placeOf (off + 3)) ⌝ }
+{
+    if at % 512 < 507 {
+        return at + 3;
+    }
+    at + 11
 }

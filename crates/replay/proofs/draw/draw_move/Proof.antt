@@ -1,7 +1,7 @@
-use native.Mathlib.Omega.{arith}
 use borrow.Author.Needs.{needs}
+use native.Mathlib.Omega.{arith}
 use mathlib.Core.Path.{refl, sym, ap, _∙_}
-use Rattle.replay.specs.Drawn.{part-same, drawn-inside, part-fits, place-low, part-whole, drawn-crossing, step-near}
+use Rattle.replay.specs.Drawn.{drawn-inside, part-fits, place-low, part-whole, drawn-crossing, step-near}
 use Rattle.replay.proofs.draw.draw_move.Statement.{statement}
 use Rattle.replay.proofs.draw.draw_move.Tie as tie
 
@@ -12,7 +12,7 @@ zone-of-requires-2 : tie.Need-zone-of-requires-2
 zone-of-requires-2 c κs = search needs
 
 returns : tie.Need-returns
-returns c = (λ m h el hv g. drawn-inside _ m h g _ _ hv (c .before .before .before .before .before .zone-of .result .0) (c .before .before .before .zone-of2 .result .0) (c .before .before .before .before .before .zone-of .ensures) (c .before .before .before .zone-of2 .ensures) _ _ _ _ (c .if1 .taken), search needs)
+returns c = (λ f n z m h hv g. drawn-inside _ m h g _ _ hv (c .before .before .before .before .zone-of .result .0) (c .before .before .before .zone-of2 .result .0) (c .before .before .before .before .zone-of .ensures) (c .before .before .before .zone-of2 .ensures) _ _ _ _ (c .if1 .taken), search needs)
 
 zone-entry-requires : tie.Need-zone-entry-requires
 zone-entry-requires c κs = search needs
@@ -33,7 +33,7 @@ add-e : tie.Need-add-e
 add-e c = search needs
 
 returns-2 : tie.Need-returns-2
-returns-2 c = (λ m h el hv g. absurd (let w = part-fits _ m h g _ _ hv (c .before .before .before .before .before .before .before .before .before .before .before .before .before .before .before .zone-of .result .0) (c .before .before .before .before .before .before .before .before .before .before .before .before .before .zone-of2 .result .0) (c .before .before .before .before .before .before .before .before .before .before .before .before .before .before .before .zone-of .ensures) (c .before .before .before .before .before .before .before .before .before .before .before .before .before .zone-of2 .ensures) _ _ _ _ (c .before .before .before .before .before .zone-entry .ensures) (c .before .before .before .zone-entry2 .ensures) (c .before .zone-entry3 .ensures) refl in omega arith), search needs)
+returns-2 c = (λ f n z m h hv g. absurd (let w = part-fits _ m h g _ _ hv (c .before .before .before .before .before .before .before .before .zone-of .result .0) (c .before .before .before .before .before .before .before .zone-of2 .result .0) (c .before .before .before .before .before .before .before .before .zone-of .ensures) (c .before .before .before .before .before .before .before .zone-of2 .ensures) _ _ _ _ (c .before .before .before .zone-entry .ensures) (c .before .before .zone-entry2 .ensures) (c .before .zone-entry3 .ensures) refl in omega arith), search needs)
 
 place-of-requires : tie.Need-place-of-requires
 place-of-requires c κs = search needs
@@ -42,13 +42,13 @@ cast-j : tie.Need-cast-j
 cast-j c = search needs
 
 returns-3 : tie.Need-returns-3
-returns-3 c = (λ m h el hv g. absurd (let w = place-low _ m h g _ _ hv (c .before .before .before .before .before .before .before .before .before .before .before .before .before .before .before .before .before .before .before .zone-of .result .0) (c .before .before .before .before .before .before .before .before .before .before .before .before .before .before .before .before .before .zone-of2 .result .0) (c .before .before .before .before .before .before .before .before .before .before .before .before .before .before .before .before .before .before .before .zone-of .ensures) (c .before .before .before .before .before .before .before .before .before .before .before .before .before .before .before .before .before .zone-of2 .ensures) _ _ _ _ (c .before .before .before .before .before .before .before .before .before .zone-entry .ensures) (c .before .before .before .before .before .before .before .zone-entry2 .ensures) (c .before .before .before .before .before .zone-entry3 .ensures) (c .before .place-of .ensures) in omega arith), search needs)
+returns-3 c = (λ f n z m h hv g. absurd (let w = place-low _ m h g _ _ hv (c .before .before .before .before .before .before .before .before .before .before .zone-of .result .0) (c .before .before .before .before .before .before .before .before .before .zone-of2 .result .0) (c .before .before .before .before .before .before .before .before .before .before .zone-of .ensures) (c .before .before .before .before .before .before .before .before .before .zone-of2 .ensures) _ _ _ _ (c .before .before .before .before .before .zone-entry .ensures) (c .before .before .before .before .zone-entry2 .ensures) (c .before .before .before .zone-entry3 .ensures) (c .before .place-of .ensures) in omega arith), search needs)
 
 part-of-requires : tie.Need-part-of-requires
 part-of-requires c κs = search needs
 
 returns-4 : tie.Need-returns-4
-returns-4 c = (λ m h el hv g. absurd (c .if4 .taken (part-whole _ m h g _ _ hv (c .before .before .before .before .before .before .before .before .before .before .before .before .before .before .before .before .before .before .before .before .before .zone-of .result .0) (c .before .before .before .before .before .before .before .before .before .before .before .before .before .before .before .before .before .before .before .zone-of2 .result .0) (c .before .before .before .before .before .before .before .before .before .before .before .before .before .before .before .before .before .before .before .before .before .zone-of .ensures) (c .before .before .before .before .before .before .before .before .before .before .before .before .before .before .before .before .before .before .before .zone-of2 .ensures) _ _ _ _ (c .before .before .before .before .before .before .before .before .before .before .before .zone-entry .ensures) (c .before .before .before .before .before .before .before .before .before .zone-entry2 .ensures) (c .before .before .before .before .before .before .before .zone-entry3 .ensures) (c .before .before .before .place-of .ensures) _ (part-same _ _ _ _ _ (c .before .part-of .ensures) el))), search needs)
+returns-4 c = (λ f n z m h hv g. absurd (c .if4 .taken (part-whole _ m h g _ _ hv (c .before .before .before .before .before .before .before .before .before .before .before .before .zone-of .result .0) (c .before .before .before .before .before .before .before .before .before .before .before .zone-of2 .result .0) (c .before .before .before .before .before .before .before .before .before .before .before .before .zone-of .ensures) (c .before .before .before .before .before .before .before .before .before .before .before .zone-of2 .ensures) _ _ _ _ (c .before .before .before .before .before .before .before .zone-entry .ensures) (c .before .before .before .before .before .before .zone-entry2 .ensures) (c .before .before .before .before .before .zone-entry3 .ensures) (c .before .before .before .place-of .ensures) _ (c .before .part-of .ensures))), search needs)
 
 behind-of-requires : tie.Need-behind-of-requires
 behind-of-requires c κs = search needs
@@ -57,18 +57,18 @@ fills-in-requires : tie.Need-fills-in-requires
 fills-in-requires c κs = search needs
 
 write-step-requires : tie.Need-write-step-requires
-write-step-requires c κs = (omega (arith, c .before .before .before .if4 .left), c .before .before .before .before .before .before .before .before .before .before .before .before .before .before .before .before .before .before .before .before .before .before .before .before .before .before .before .before .before .before .pre .1)
+write-step-requires c κs = search needs
 
-add-t34 : tie.Need-add-t34
-add-t34 c = record { fits = omega (arith, c .before .before .before .before .before .before .before .before .before .before .before .before .before .before .before .before .before .before .before .before .before .before .before .before .before .before .before .before .before .before .before .before .before .before .pre .0) }
+add-t27 : tie.Need-add-t27
+add-t27 c = record { fits = omega (arith, c .before .before .before .before .before .before .before .before .before .before .before .before .before .before .before .before .before .before .before .before .before .before .before .pre .0) }
 
 same-length : tie.Need-same-length
 same-length c = search needs
 
 returns-5 : tie.Need-returns-5
 returns-5 c = (
-  λ m h el hv g.
-      drawn-crossing _ m h g _ _ hv (c .before .before .before .before .before .before .before .before .before .before .before .before .before .before .before .before .before .before .before .before .before .before .before .before .before .before .before .before .zone-of .result .0) (c .before .before .before .before .before .before .before .before .before .before .before .before .before .before .before .before .before .before .before .before .before .before .before .before .before .before .zone-of2 .result .0) (c .before .before .before .before .before .before .before .before .before .before .before .before .before .before .before .before .before .before .before .before .before .before .before .before .before .before .before .before .zone-of .ensures) (c .before .before .before .before .before .before .before .before .before .before .before .before .before .before .before .before .before .before .before .before .before .before .before .before .before .before .zone-of2 .ensures) _ _ _ _ (c .before .before .before .before .before .before .before .before .before .before .before .before .before .before .before .before .before .before .zone-entry .ensures) (c .before .before .before .before .before .before .before .before .before .before .before .before .before .before .before .before .zone-entry2 .ensures) (c .before .before .before .before .before .before .before .before .before .before .before .before .before .before .zone-entry3 .ensures) (c .before .before .before .before .before .before .before .before .before .before .place-of .ensures) _ _ _ _ (c .before .before .before .before .before .before .before .before .before .before .before .before .before .before .before .before .before .before .before .before .before .before .before .if1 .left) _ _ _ _ _ (part-same _ _ _ _ _ (c .before .before .before .before .before .before .before .before .part-of .ensures) el) (c .before .before .before .before .before .before .behind-of .ensures) (c .before .before .before .before .before .fills-in .ensures) (c .before .before .before .write-step .ensures .0) (c .before .before .before .write-step .ensures .1),
+  λ f n z m h hv g.
+      drawn-crossing _ m h g _ _ hv (c .before .before .before .before .before .before .before .before .before .before .before .before .before .before .before .before .before .before .before .zone-of .result .0) (c .before .before .before .before .before .before .before .before .before .before .before .before .before .before .before .before .before .before .zone-of2 .result .0) (c .before .before .before .before .before .before .before .before .before .before .before .before .before .before .before .before .before .before .before .zone-of .ensures) (c .before .before .before .before .before .before .before .before .before .before .before .before .before .before .before .before .before .before .zone-of2 .ensures) _ _ _ _ (c .before .before .before .before .before .before .before .before .before .before .before .before .before .before .zone-entry .ensures) (c .before .before .before .before .before .before .before .before .before .before .before .before .before .zone-entry2 .ensures) (c .before .before .before .before .before .before .before .before .before .before .before .before .zone-entry3 .ensures) (c .before .before .before .before .before .before .before .before .before .before .place-of .ensures) _ _ _ _ (c .before .before .before .before .before .before .before .before .before .before .before .before .before .before .before .if1 .left) _ _ _ _ _ (c .before .before .before .before .before .before .before .before .part-of .ensures) (c .before .before .before .before .before .before .behind-of .ensures) (c .before .before .before .before .before .fills-in .ensures) (c .before .before .before .write-step .ensures .0) (c .before .before .before .write-step .ensures .1),
   (search needs, step-near _ _ _ _ _ _ _ _ _ _ (c .before .before .before .write-step .ensures .0) (omega (arith, c .before .before .before .before .before .before .before .if4 .left))),
 )
 
@@ -94,6 +94,6 @@ draw-move-spec =
     behind-of-requires
     fills-in-requires
     write-step-requires
-    add-t34
+    add-t27
     same-length
     returns-5)

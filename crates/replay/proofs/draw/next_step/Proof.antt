@@ -1,5 +1,6 @@
 use borrow.Author.Needs.{needs}
 use Rattle.replay.specs.Drawn.{drawn-same}
+use borrow.Author.Needs.{needs}
 use Rattle.replay.proofs.draw.next_step.Statement.{statement}
 use Rattle.replay.proofs.draw.next_step.Tie as tie
 
@@ -7,7 +8,7 @@ shift-requires : tie.Need-shift-requires
 shift-requires c κs = search needs
 
 draw-move-requires : tie.Need-draw-move-requires
-draw-move-requires c κs = c .before .before .before .before .before .before .before .before .before .before .before .before .before .pre
+draw-move-requires c κs = search needs
 
 same-length : tie.Need-same-length
 same-length c = search needs
@@ -21,8 +22,10 @@ same-length-3 c = search needs
 returns : tie.Need-returns
 returns c = (
   c .before .before .before .before .before .before .before .before .before .shift .ensures,
-  (λ m h el hv g. drawn-same m _ _ _ _ _ _ _ _ (c .before .before .before .before .before .before .before .before .before .shift .ensures) (c .before .before .draw-move .ensures .0 m h el hv g), c .before .before .draw-move .ensures .1),
+  (λ f n z m h hv g. drawn-same m _ _ _ _ _ _ _ _ (c .before .before .before .before .before .before .before .before .before .shift .ensures) (c .before .before .draw-move .ensures .0 f n z m h hv g), c .before .before .draw-move .ensures .1),
 )
 
 pub next-step-spec : {M : Type 1} → statement M
-next-step-spec = tie.close (tie.spec shift-requires draw-move-requires same-length same-length-2 same-length-3 returns)
+next-step-spec =
+    tie.close
+    (tie.spec shift-requires draw-move-requires same-length same-length-2 same-length-3 returns)

@@ -1,5 +1,7 @@
 use borrow.Author.Needs.{needs}
-use Prim.Native.Nat.{_-_}
+use Prim.Native.Nat.{_+_, _-_, _*_}
+use mathlib.Core.Path.{_≡_, refl}
+use Rattle.wire.specs.Payload.{placeOf}
 use Rattle.replay.specs.Moves.{fileBytes, three-bytes}
 use Rattle.replay.specs.Rounds.{Timing, timing-start, timing-more, timing-end, entry-small}
 use native.Mathlib.Omega.{arith}
@@ -7,22 +9,16 @@ use Rattle.replay.proofs.rounds.write_rounds.Statement.{statement}
 use Rattle.replay.proofs.rounds.write_rounds.Tie as tie
 
 abbrev Inv-loop : tie.InvT-loop
-Inv-loop file count out₀ last₀ left₀ i₀ out last left i = Timing (fileBytes file) count out₀ i last left out
+Inv-loop file count out₀ last₀ left₀ at₀ place₀ i₀ out last left at place i = (at ≡ placeOf (2 + i * 3)) × (place ≡ placeOf (2 + i * 2)) × Timing (fileBytes file) count out₀ i last left out
 
 abbrev μ-loop : tie.MeasureT-loop
-μ-loop file count out₀ last₀ left₀ i₀ out last left i = count - i
+μ-loop file count out₀ last₀ left₀ at₀ place₀ i₀ out last left at place i = count - i
 
 loop-holds : tie.Need-loop-holds Inv-loop μ-loop
-loop-holds c = timing-start _ _ _
+loop-holds c = (refl, refl, timing-start _ _ _)
 
-mul-payload-three : tie.Need-mul-payload-three Inv-loop μ-loop
-mul-payload-three c = search needs
-
-add-payload-three : tie.Need-add-payload-three Inv-loop μ-loop
-add-payload-three c = search needs
-
-payload-three-requires : tie.Need-payload-three-requires Inv-loop μ-loop
-payload-three-requires c κs = search needs
+three-from-requires : tie.Need-three-from-requires Inv-loop μ-loop
+three-from-requires c κs = omega (arith, c .before .loop .inv .0, c .before .loop .inv .2 .within)
 
 cast-r : tie.Need-cast-r Inv-loop μ-loop
 cast-r c = search needs
@@ -41,8 +37,8 @@ array-read-later c = search needs
 
 add-later : tie.Need-add-later Inv-loop μ-loop
 add-later c =
-    let k = c .before .before .before .before .before .loop .inv .kept in
-    omega (arith, entry-small _ _ _ _ k (c .before .before .before .payload-three .result .first) (search needs))
+    let k = c .before .before .before .before .before .loop .inv .2 .kept in
+    omega (arith, entry-small _ _ _ _ k (c .before .before .before .three-from .result .first) (search needs))
 
 mul-later-2 : tie.Need-mul-later-2 Inv-loop μ-loop
 mul-later-2 c = search needs
@@ -65,14 +61,14 @@ mul-left c = search needs
 array-write-left : tie.Need-array-write-left Inv-loop μ-loop
 array-write-left c = search needs
 
-mul-put-word : tie.Need-mul-put-word Inv-loop μ-loop
-mul-put-word c = search needs
+put-word-at-requires : tie.Need-put-word-at-requires Inv-loop μ-loop
+put-word-at-requires c κs = omega (arith, c .before .before .before .before .before .before .before .loop .inv .1, c .before .before .before .before .before .before .before .loop .inv .2 .within)
 
-add-put-word : tie.Need-add-put-word Inv-loop μ-loop
-add-put-word c = search needs
+place-after-requires : tie.Need-place-after-requires Inv-loop μ-loop
+place-after-requires c κs = omega (arith, c .before .before .before .before .before .before .before .before .before .before .loop .inv .0, c .before .before .before .before .before .before .before .before .before .before .loop .inv .2 .within)
 
-put-word-requires : tie.Need-put-word-requires Inv-loop μ-loop
-put-word-requires c κs = search needs
+word-after-requires : tie.Need-word-after-requires Inv-loop μ-loop
+word-after-requires c κs = omega (arith, c .before .before .before .before .before .before .before .before .before .before .before .loop .inv .1, c .before .before .before .before .before .before .before .before .before .before .before .loop .inv .2 .within)
 
 add-i : tie.Need-add-i Inv-loop μ-loop
 add-i c = search needs
@@ -82,21 +78,26 @@ loop-less c = search needs
 
 loop-again : tie.Need-loop-again Inv-loop μ-loop
 loop-again c =
-    let at = c .before .before .before .before .before .before .before .before .before .before in
-    let x = c .before .before .before .before .before .before .before .before .payload-three in
-    let e = three-bytes (c .before .before .before .before .before .before .before .before .before .before .before .before .before .args .file .now) (at .loop .i) (x .result) (x .ensures) in
-    timing-more _ _ _ (at .loop .i) _ _ _ (at .loop .last) (at .loop .left) (at .loop .out) _ _ (at .loop .inv) (search needs) (e .0) (e .1) (e .2)
-    (search needs)
-    (search needs)
-    (search needs)
-    (c .before .before .before .before .later .ensures)
-    (c .before .before .put-word .ensures)
+    let o = c .before .before .before .before .before .before .before .before .before .before .before .before .loop in
+    let x = c .before .before .before .before .before .before .before .before .before .before .three-from in
+    let e = three-bytes (c .before .before .before .before .before .before .before .before .before .before .before .before .before .before .before .args .file .now) (o .i) (x .result) (x .ensures (2 + o .i * 3) (o .inv .0)) in
+    let w : 2 + o .i * 3 + 3 ≡ 2 + (o .i + 1) * 3 = omega arith in
+    let y : 2 + o .i * 2 + 2 ≡ 2 + (o .i + 1) * 2 = omega arith in (
+      rw w at (c .before .place-after .ensures (2 + o .i * 3) (o .inv .0)),
+      rw y at (c .word-after .ensures (2 + o .i * 2) (o .inv .1) (omega arith)),
+      timing-more _ _ _ (o .i) _ _ _ (o .last) (o .left) (o .out) _ _ (o .inv .2) (search needs) (e .0) (e .1) (e .2)
+          (search needs)
+          (search needs)
+          (search needs)
+          (c .before .before .before .before .before .before .later .ensures)
+          (c .before .before .before .before .put-word-at .ensures (2 + o .i * 2) (o .inv .1) (omega arith)),
+    )
 
 same-length : tie.Need-same-length Inv-loop μ-loop
 same-length c = search needs
 
 returns : tie.Need-returns Inv-loop μ-loop
-returns c = timing-end _ _ _ _ _ _ _ (c .before .loop .inv) (search needs)
+returns c = timing-end _ _ _ _ _ _ _ (c .before .loop .inv .2) (search needs)
 
 pub write-rounds-spec : {M : Type 1} → statement M
 write-rounds-spec =
@@ -105,9 +106,7 @@ write-rounds-spec =
     Inv-loop
     μ-loop
     loop-holds
-    mul-payload-three
-    add-payload-three
-    payload-three-requires
+    three-from-requires
     cast-r
     cast-u
     cast-v
@@ -121,9 +120,9 @@ write-rounds-spec =
     array-write-last
     mul-left
     array-write-left
-    mul-put-word
-    add-put-word
-    put-word-requires
+    put-word-at-requires
+    place-after-requires
+    word-after-requires
     add-i
     loop-less
     loop-again
