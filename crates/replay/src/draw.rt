@@ -119,7 +119,7 @@ fn draw_move(
         return d;
     }
     let behind = zones::behind_of(kind, robots, part, j);
-    let filled = zones::fills_in(kind, robots, part);
+    let filled = zones::fills(kind, robots, part);
     let bytes = write_step(robots, part, j, r, u, v, behind, filled, d.bytes, out);
     Drawn {
         steps: d.steps + 1,

@@ -53,8 +53,8 @@ returns-4 c = (λ f n z m h hv g. absurd (c .if4 .taken (part-whole _ m h g _ _ 
 behind-of-requires : tie.Need-behind-of-requires
 behind-of-requires c κs = search needs
 
-fills-in-requires : tie.Need-fills-in-requires
-fills-in-requires c κs = search needs
+fills-requires : tie.Need-fills-requires
+fills-requires c κs = search needs
 
 write-step-requires : tie.Need-write-step-requires
 write-step-requires c κs = search needs
@@ -68,7 +68,7 @@ same-length c = search needs
 returns-5 : tie.Need-returns-5
 returns-5 c = (
   λ f n z m h hv g.
-      drawn-crossing _ m h g _ _ hv (c .before .before .before .before .before .before .before .before .before .before .before .before .before .before .before .before .before .before .before .zone-of .result .0) (c .before .before .before .before .before .before .before .before .before .before .before .before .before .before .before .before .before .before .zone-of2 .result .0) (c .before .before .before .before .before .before .before .before .before .before .before .before .before .before .before .before .before .before .before .zone-of .ensures) (c .before .before .before .before .before .before .before .before .before .before .before .before .before .before .before .before .before .before .zone-of2 .ensures) _ _ _ _ (c .before .before .before .before .before .before .before .before .before .before .before .before .before .before .zone-entry .ensures) (c .before .before .before .before .before .before .before .before .before .before .before .before .before .zone-entry2 .ensures) (c .before .before .before .before .before .before .before .before .before .before .before .before .zone-entry3 .ensures) (c .before .before .before .before .before .before .before .before .before .before .place-of .ensures) _ _ _ _ (c .before .before .before .before .before .before .before .before .before .before .before .before .before .before .before .if1 .left) _ _ _ _ _ (c .before .before .before .before .before .before .before .before .part-of .ensures) (c .before .before .before .before .before .before .behind-of .ensures) (c .before .before .before .before .before .fills-in .ensures) (c .before .before .before .write-step .ensures .0) (c .before .before .before .write-step .ensures .1),
+      drawn-crossing _ m h g _ _ hv (c .before .before .before .before .before .before .before .before .before .before .before .before .before .before .before .before .before .before .before .zone-of .result .0) (c .before .before .before .before .before .before .before .before .before .before .before .before .before .before .before .before .before .before .zone-of2 .result .0) (c .before .before .before .before .before .before .before .before .before .before .before .before .before .before .before .before .before .before .before .zone-of .ensures) (c .before .before .before .before .before .before .before .before .before .before .before .before .before .before .before .before .before .before .zone-of2 .ensures) _ _ _ _ (c .before .before .before .before .before .before .before .before .before .before .before .before .before .before .zone-entry .ensures) (c .before .before .before .before .before .before .before .before .before .before .before .before .before .zone-entry2 .ensures) (c .before .before .before .before .before .before .before .before .before .before .before .before .zone-entry3 .ensures) (c .before .before .before .before .before .before .before .before .before .before .place-of .ensures) _ _ _ _ (c .before .before .before .before .before .before .before .before .before .before .before .before .before .before .before .if1 .left) _ _ _ _ _ (c .before .before .before .before .before .before .before .before .part-of .ensures) (c .before .before .before .before .before .before .behind-of .ensures) (c .before .before .before .before .before .fills .ensures) (c .before .before .before .write-step .ensures .0) (c .before .before .before .write-step .ensures .1),
   (search needs, step-near _ _ _ _ _ _ _ _ _ _ (c .before .before .before .write-step .ensures .0) (omega (arith, c .before .before .before .before .before .before .before .if4 .left))),
 )
 
@@ -92,7 +92,7 @@ draw-move-spec =
     part-of-requires
     returns-4
     behind-of-requires
-    fills-in-requires
+    fills-requires
     write-step-requires
     add-t27
     same-length
