@@ -15,6 +15,9 @@ use Rattle.spec.specs.State.{State, arrangementOf}
 use Rattle.spec.specs.Terms.{zoneCount, kindOf, sizeOf, arrangementIn}
 use Rattle.theory.specs.Maps.Cells as maps
 use Rattle.theory.specs.Zones.Arrangements.{order-short}
+use Rattle.motion.specs.declared.State as code
+use Rattle.motion.specs.States.{stateOf}
+use Rattle.motion.specs.Tables.{onVertices, arrangement-alone}
 use Rattle.motion.specs.Across.{arrangement-length}
 use Rattle.zones.specs.Tables.{verticesIn}
 use Rattle.hall.specs.Line.{Lined}
@@ -144,3 +147,13 @@ filled-all m first counts cells s i h f = record {
   stands = λ z b. holds-order (kindOf m z) (listIn first counts cells z) (arrangementIn m s z) (sym (f .lists z (omega arith) b));
   few = f .few;
 }
+
+-- ---- the state's table of robots by vertex
+
+-- it shows the arrangements of the state
+pub arranged-by : (s : code.State) (on vs : List ℕ) → on ≡ stateOf s .robots → arrangementOf (onVertices on) vs ≡ arrangementOf (stateOf s) vs
+arranged-by s on vs e = ap (λ (l : List ℕ). arrangementOf (onVertices l) vs) e ∙ arrangement-alone (stateOf s .robots) (stateOf s .vertices) vs
+
+-- the same list, spelled in another way
+pub relisted : {first size counts cells : List ℕ} {z : ℕ} {l k counts′ new : List ℕ} → l ≡ k → Listed first size counts cells z l counts′ new → Listed first size counts cells z k counts′ new
+relisted e w = rw e at w

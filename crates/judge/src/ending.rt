@@ -10,6 +10,7 @@ ghost use Rattle.spec.specs.Run.{goalsFrom};
 ghost use Rattle.spec.specs.Terms.{zoneCount};
 ghost use Rattle.theory.specs.Maps.Consistent.{Consistent};
 ghost use Rattle.motion.specs.States.{stateOf};
+ghost use Rattle.motion.specs.Tables.{onVertices};
 ghost use Rattle.zones.specs.Tables.{verticesIn};
 ghost use Rattle.orders.specs.Orders.{endTest};
 ghost use Rattle.resolve.specs.Given.{Given, HasZone};
@@ -23,7 +24,7 @@ use motion::State;
 
 // Writes zone z's list: its robots in order, and their number.
 fn fill_zone<'a>(
-    s: State,
+    on: &[u8],
     first: &'a [u8; 64],
     size: &'a [u8; 64],
     listed: &'a [u8],
@@ -32,13 +33,13 @@ fn fill_zone<'a>(
     counts: &mut [u8; 64],
 )
     requires { ⌜ HasZone (now first) (now size) (now listed) z × (length (now cells) ≡ length (now listed)) ⌝ }
-    ensures { λ q. ⌜ Listed (now (first .entry)) (now (size .entry)) (now (counts .entry)) (now (cells .entry)) z (order (meaning.arrangementOf (stateOf s) (verticesIn (now (first .entry)) (now (size .entry)) (now (listed .entry)) z))) (now (counts .exit)) (now (cells .exit)) ⌝ }
+    ensures { λ q. ⌜ Listed (now (first .entry)) (now (size .entry)) (now (counts .entry)) (now (cells .entry)) z (order (meaning.arrangementOf (onVertices (now (on .entry))) (verticesIn (now (first .entry)) (now (size .entry)) (now (listed .entry)) z))) (now (counts .exit)) (now (cells .exit)) ⌝ }
 {
     let a = first[z] as usize;
     let e = a + size[z] as usize;
     let mut robots = [0u8; 128];
     let mut places = [0u8; 128];
-    let n = line_up(s, &listed[a..e], &mut robots, &mut places);
+    let n = line_up(on, &listed[a..e], &mut robots, &mut places);
     store(&mut cells[a..], &robots[..n]);
     counts[z] = n as u8;
 }
@@ -56,9 +57,11 @@ pub fn fill_lists<'a>(
     requires { ⌜ ((z : ℕ) → z < zones → HasZone (now first) (now size) (now listed) z) × (length (now cells) ≡ length (now listed)) × (length (now counts) ≡ 64) × ((z : ℕ) → getD (now counts) z 0 ≡ 0) ⌝ }
     ensures { λ q. ⌜ (length (now (cells .exit)) ≡ length (now (listed .entry))) × (length (now (counts .exit)) ≡ 64) × ((m : Map) (n k : ℕ) (kind zone place : List ℕ) (rows : List (List ℕ)) → Given m n k kind (now (first .entry)) (now (size .entry)) (now (listed .entry)) zone place rows → zoneCount m ≡ zones → Consistent m k (stateOf s) → Held m (now (first .entry)) (now (counts .exit)) (now (cells .exit)) (stateOf s)) ⌝ }
 {
+    let mut on = [255u8; 128];
+    motion::robots_of(s, &mut on);
     let mut z: usize = 0;
     while z < zones {
-        fill_zone(s, first, size, listed, z, cells, counts);
+        fill_zone(&on, first, size, listed, z, cells, counts);
         z += 1;
     }
 }
@@ -72,10 +75,10 @@ fn ends_zone<'a>(
     z: usize,
     cells: &[u8],
     counts: &[u8; 64],
-    goals: State,
+    goals: &[u8],
 ) -> bool
     requires { ⌜ HasZone (now first) (now size) (now listed) z × HasList (now first) (now size) (now counts) (now cells) z ⌝ }
-    ensures { λ b. ⌜ b ≡ endTest (getD (now (kind .entry)) z 0) (getD (now (size .entry)) z 0) (listIn (now (first .entry)) (now (counts .entry)) (now (cells .entry)) z) (order (meaning.arrangementOf (stateOf goals) (verticesIn (now (first .entry)) (now (size .entry)) (now (listed .entry)) z))) ⌝ }
+    ensures { λ b. ⌜ b ≡ endTest (getD (now (kind .entry)) z 0) (getD (now (size .entry)) z 0) (listIn (now (first .entry)) (now (counts .entry)) (now (cells .entry)) z) (order (meaning.arrangementOf (onVertices (now (goals .entry))) (verticesIn (now (first .entry)) (now (size .entry)) (now (listed .entry)) z))) ⌝ }
 {
     let a = first[z] as usize;
     let m = size[z] as usize;
@@ -101,9 +104,11 @@ pub fn off_zone<'a>(
     requires { ⌜ ((z : ℕ) → z < zones → HasZone (now first) (now size) (now listed) z) × ((z : ℕ) → z < zones → HasList (now first) (now size) (now counts) (now cells) z) ⌝ }
     ensures { λ r. ⌜ ((m : Map) (n k : ℕ) (zone place : List ℕ) (rows : List (List ℕ)) → Given m n k (now (kind .entry)) (now (first .entry)) (now (size .entry)) (now (listed .entry)) zone place rows → zoneCount m ≡ zones → (s : meaning.State) → Consistent m k s → Held m (now (first .entry)) (now (counts .entry)) (now (cells .entry)) s → offZone r zones ≡ goalsFrom 0 (m .zones) s (stateOf goals)) ⌝ }
 {
+    let mut targets = [255u8; 128];
+    motion::robots_of(goals, &mut targets);
     let mut z: usize = 0;
     while z < zones {
-        if !ends_zone(kind, first, size, listed, z, cells, counts, goals) {
+        if !ends_zone(kind, first, size, listed, z, cells, counts, &targets) {
             return z;
         }
         z += 1;
