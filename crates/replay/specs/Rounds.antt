@@ -96,6 +96,10 @@ round-small ts x n h g = omega arith
 pub entry-small : (ts : List Timed) (n : ℕ) (last left : List ℕ) → Kept ts n last left → (r : ℕ) → r < 256 → getD last r 0 ≤ n
 entry-small ts n last left k r h = omega (arith, k .robots r h, k .robots-small r)
 
+-- and so is one of the vertices' table
+pub left-entry-small : (ts : List Timed) (n : ℕ) (last left : List ℕ) → Kept ts n last left → (v : ℕ) → v < 256 → getD left v 0 ≤ n
+left-entry-small ts n last left k v h = omega (arith, k .vertices v h, k .vertices-small v)
+
 -- the tables after move i
 pub kept-more : (byte : ℕ → ℕ) (i : ℕ) (last left : List ℕ) → Kept (timedBy byte i) i last left → moveBy byte i .robot < 256 → moveBy byte i .from < 256
     → Kept (timedBy byte (i + 1)) (i + 1)

@@ -6,41 +6,65 @@ ghost use lib.ListN.{length, take};
 ghost use Rattle.spec.specs.Layout.{Map, Placing};
 ghost use Rattle.spec.specs.Arrangement.{mv};
 ghost use Rattle.spec.specs.Run.{onGoals, checkedMoves};
-ghost use Rattle.adjacency.specs.Rows.{Shows};
+ghost use Rattle.adjacency.specs.Rows.{Shows, bitAt};
 ghost use Rattle.wire.specs.Payload.{payload};
+ghost use Rattle.motion.specs.States.{movedBy};
 ghost use Rattle.motion.specs.Tables.{tabled};
 ghost use Rattle.replay.specs.Moves.{moveTests};
-ghost use Rattle.replay.specs.Check.{faultAt, offGoal, moveListOf, ReplayOf};
+ghost use Rattle.replay.specs.Check.{faultAt, NumbersOf, offGoal, moveListOf, ReplayOf};
 use crate::Fault;
 use crate::MoveList;
 use numbering::Robot;
-use numbering::Vertex;
+
+// Is there an edge between two vertices?
+fn edge_between(rows: &[[u64; 2]; 128], u: u8, v: u8) -> bool
+    requires { ⌜ (u < 128) × (v < 128) ⌝ }
+    ensures { λ r. ⌜ r ≡ bitAt (now (rows .entry)) u v ⌝ }
+{
+    let a = u as usize;
+    let b = v as usize;
+    let word = rows[a][b / 64];
+    let place = (b % 64) as u32;
+    (word >> place) % 2 == 1
+}
 
 // What is wrong with robot r's move from u to v, on a map of n vertices for k robots: 46, 47, 48.
 fn fault_of(robots: &[u8], rows: &[[u64; 2]; 128], n: usize, k: usize, r: u8, u: u8, v: u8) -> Fault
+    requires { ⌜ (n ≤ 128) × (length (now robots) ≡ 128) ⌝ }
     ensures { λ f. ⌜ ((m : Map) → m .size ≡ n → Shows (now (rows .entry)) (m .edges) → (vs : List ℕ) (i : ℕ) → faultAt i f ≡ moveTests m k (tabled (now (robots .entry)) vs) (mv r u v) i) ⌝ }
+    ensures { λ f. ⌜ NumbersOf f n k r u v ⌝ }
 {
     if k <= r as usize {
         return Fault::Number;
     }
-    if n <= u as usize {
+    let a = u as usize;
+    if n <= a {
         return Fault::Number;
     }
-    if n <= v as usize {
+    let b = v as usize;
+    if n <= b {
         return Fault::Number;
     }
-    if !adjacency::joined(rows, Vertex(u), Vertex(v)) {
+    if !edge_between(rows, u, v) {
         return Fault::Edge;
     }
-    let x = motion::robot_in(robots, Vertex(u));
-    if x != r {
+    if robots[a] != r {
         return Fault::Standing;
     }
-    let y = motion::robot_in(robots, Vertex(v));
-    if y != 255 {
+    if robots[b] != 255 {
         return Fault::Standing;
     }
     Fault::Nothing
+}
+
+// Robot r goes from u to v, in the lent tables of a state.
+fn make_move(robots: &mut [u8], vertices: &mut [u8], r: u8, u: u8, v: u8)
+    requires { ⌜ (r < length (now vertices)) × (u < length (now robots)) × (v < length (now robots)) ⌝ }
+    ensures { λ q. ⌜ tabled (now (robots .exit)) (now (vertices .exit)) ≡ movedBy (tabled (now (robots .entry)) (now (vertices .entry))) (mv r u v) ⌝ }
+{
+    robots[u as usize] = 255;
+    robots[v as usize] = r;
+    vertices[r as usize] = v;
 }
 
 // The lowest robot that is off its goal; k where there is none.
@@ -71,6 +95,7 @@ fn replay_moves(
     vertices: &mut [u8],
 ) -> MoveList
     requires { ⌜ (len ≤ length (now file) / 512 * 504) × (count < 65536) ⌝ }
+    requires { ⌜ (n ≤ 128) × (k ≤ 64) × (length (now robots) ≡ 128) × (length (now vertices) ≡ 64) ⌝ }
     ensures { λ q. ⌜ ((m : Map) → m .size ≡ n → Shows (now (rows .entry)) (m .edges) → ReplayOf m k (take len (payload (now (file .entry)))) count (tabled (now (robots .entry)) (now (vertices .entry))) q (tabled (now (robots .exit)) (now (vertices .exit)))) ⌝ }
 {
     let mut i: usize = 0;
@@ -92,13 +117,7 @@ fn replay_moves(
             }
             Fault::Nothing => {}
         }
-        motion::shift(
-            robots,
-            vertices,
-            Robot(x.first),
-            Vertex(x.second),
-            Vertex(x.third),
-        );
+        make_move(robots, vertices, x.first, x.second, x.third);
         at = wire::place_after(at);
         i += 1;
     }
@@ -115,7 +134,7 @@ pub fn check_moves(
     goals: [u8; 64],
     k: usize,
 ) -> MoveList
-    requires { ⌜ (len ≤ length (now file) / 512 * 504) × (k ≤ 64) ⌝ }
+    requires { ⌜ (len ≤ length (now file) / 512 * 504) × (n ≤ 128) × (k ≤ 64) ⌝ }
     ensures { λ r. ⌜ ((m : Map) (pl : Placing) → m .size ≡ n → Shows (now (rows .entry)) (m .edges) → pl .starts ≡ take k starts → pl .goals ≡ take k goals → moveListOf (take len (payload (now (file .entry)))) r ≡ checkedMoves m pl (take len (payload (now (file .entry))))) ⌝ }
 {
     if len < 2 {

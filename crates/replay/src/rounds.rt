@@ -6,7 +6,7 @@ ghost use Rattle.spec.specs.State.{wordBytes, roundsFrom};
 ghost use Rattle.wire.specs.Laid.{laidAll};
 ghost use Rattle.replay.specs.Moves.{movesBy, fileBytes};
 
-fn later(a: u16, b: u16) -> u16
+fn later(a: u32, b: u32) -> u32
     ensures { λ r. ⌜ r ≡ max a b ⌝ }
 {
     if a < b { b } else { a }
@@ -17,8 +17,8 @@ pub fn write_rounds(file: &[u8], count: usize, out: &mut [u8])
     requires { ⌜ count < 65536 ⌝ }
     ensures { λ r. ⌜ now (out .exit) ≡ laidAll (now (out .entry)) 2 (wordBytes (roundsFrom [] (movesBy (fileBytes (now (file .entry))) 0 count))) ⌝ }
 {
-    let mut last = [0u16; 256];
-    let mut left = [0u16; 256];
+    let mut last = [0u32; 256];
+    let mut left = [0u32; 256];
     let mut at: usize = 8;
     let mut place: usize = 8;
     let mut i: usize = 0;
@@ -30,7 +30,7 @@ pub fn write_rounds(file: &[u8], count: usize, out: &mut [u8])
         let round = later(last[r] + 1, left[v]);
         last[r] = round;
         left[u] = round;
-        wire::put_word_at(out, place, round);
+        wire::put_word_at(out, place, round as u16);
         at = wire::place_after(at);
         place = wire::word_after(place);
         i += 1;

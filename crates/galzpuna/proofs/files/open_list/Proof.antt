@@ -45,7 +45,7 @@ cast-k c = search needs
 
 check-moves-requires : tie.Need-check-moves-requires
 check-moves-requires c κs =
-    ((held-as _ _ _ _ (c .before .before .before .before .before .before .before .before .check-file .ensures .1) (c .before .before .before .before .before .before .before .of-file .ensures .1 (c .before .before .before .before .before .if2 .left)) .most), (c .before .before .before .before .before .before .before .before .before .before .before .before .before .before .read-yard .ensures .read (c .before .before .before .before .before .before .before .before .before .if1 .left)) .robots .few)
+    ((held-as _ _ _ _ (c .before .before .before .before .before .before .before .before .check-file .ensures .1) (c .before .before .before .before .before .before .before .of-file .ensures .1 (c .before .before .before .before .before .if2 .left)) .most), (c .before .before .before .before .before .before .before .before .before .before .before .before .before .before .read-yard .ensures .read (c .before .before .before .before .before .before .before .before .before .if1 .left)) .held .small, (c .before .before .before .before .before .before .before .before .before .before .before .before .before .before .read-yard .ensures .read (c .before .before .before .before .before .before .before .before .before .if1 .left)) .robots .few)
 
 of-list-requires : tie.Need-of-list-requires
 of-list-requires c κs = search needs

@@ -7,6 +7,7 @@ use Rattle.replay.specs.Moves.{lent-tables}
 use Rattle.replay.specs.Check.{checked-none, checked-from, checked-refused, checked-surplus, checked-goals, off-some, off-none, legal-moves, all-moves, goals-from, other-tag}
 use Rattle.replay.proofs.MoveList.{the-type}
 use denote.Enum.Declared.{tagOf}
+use borrow.Author.Needs.{needs}
 use Rattle.replay.proofs.check.check_moves.Statement.{statement}
 use Rattle.replay.proofs.check.check_moves.Tie as tie
 
@@ -44,9 +45,10 @@ enum-told : tie.Need-enum-told
 enum-told c = search needs
 
 returns-2 : tie.Need-returns-2
-returns-2 c = λ m pl e h es eg.
+returns-2 c =
+    λ m pl e h es eg.
     let w : length (c .before .before .before .before .before .before .before .before .before .before .before .before .before .before .before .before .args .starts) ≡ 64 = search (needs, c .before .before .before .before .before .before .before .before .before .before .before .before .before .before .before .before .good) in
-    let k : c .before .before .before .before .before .before .before .before .before .before .before .before .before .before .before .before .args .k ≤ length (c .before .before .before .before .before .before .before .before .before .before .before .before .before .before .before .before .args .starts) = omega (arith, c .before .before .before .before .before .before .before .before .before .before .before .before .before .before .before .before .pre .1) in
+    let k : c .before .before .before .before .before .before .before .before .before .before .before .before .before .before .before .before .args .k ≤ length (c .before .before .before .before .before .before .before .before .before .before .before .before .before .before .before .before .args .starts) = omega (arith, c .before .before .before .before .before .before .before .before .before .before .before .before .before .before .before .before .pre .2) in
     checked-refused m pl _ _ (c .before .before .before .before .before .before .before .before .before .before .before .before .before .before .before .before .pre .0) (c .before .before .before .before .before .before .before .before .before .before .before .before .before .payload-word .result) (c .before .before .before .replay-moves .result) (λ i z. other-tag _ (c .match .keys2) (ap (tagOf the-type) z))
     ∙ sym (checked-from m pl _ _ (c .before .before .before .before .before .before .before .before .before .before .before .before .before .before .before .before .pre .0) _ _ _ _ _ (search needs) k es (c .before .before .before .before .before .before .before .before .before .before .before .before .before .payload-word .ensures .0) (lent-tables (c .before .before .before .before .before .before .before .before .before .before .before .before .standing .result) _ _ _ (c .before .before .before .before .before .before .before .before .before .before .robots-of .ensures) (c .before .before .before .before .before .before .before .vertices-of .ensures) (c .before .before .before .before .before .before .before .before .before .before .before .before .standing .ensures))
     (c .before .before .before .replay-moves .ensures m e h .answer))
@@ -64,17 +66,19 @@ off-goal-requires : tie.Need-off-goal-requires
 off-goal-requires c κs = search needs
 
 returns-3 : tie.Need-returns-3
-returns-3 c = λ m pl e h es eg.
+returns-3 c =
+    λ m pl e h es eg.
     let w : length (c .before .before .before .before .before .before .before .before .before .before .before .before .before .before .before .before .before .before .before .before .args .starts) ≡ 64 = search (needs, c .before .before .before .before .before .before .before .before .before .before .before .before .before .before .before .before .before .before .before .before .good) in
-    let k : c .before .before .before .before .before .before .before .before .before .before .before .before .before .before .before .before .before .before .before .before .args .k ≤ length (c .before .before .before .before .before .before .before .before .before .before .before .before .before .before .before .before .before .before .before .before .args .starts) = omega (arith, c .before .before .before .before .before .before .before .before .before .before .before .before .before .before .before .before .before .before .before .before .pre .1) in
+    let k : c .before .before .before .before .before .before .before .before .before .before .before .before .before .before .before .before .before .before .before .before .args .k ≤ length (c .before .before .before .before .before .before .before .before .before .before .before .before .before .before .before .before .before .before .before .before .args .starts) = omega (arith, c .before .before .before .before .before .before .before .before .before .before .before .before .before .before .before .before .before .before .before .before .pre .2) in
     checked-surplus m pl _ _ (c .before .before .before .before .before .before .before .before .before .before .before .before .before .before .before .before .before .before .before .before .pre .0) _ _ (c .if2 .taken)
     ∙ sym (checked-from m pl _ _ (c .before .before .before .before .before .before .before .before .before .before .before .before .before .before .before .before .before .before .before .before .pre .0) _ _ _ _ _ (search needs) k es (c .before .before .before .before .before .before .before .before .before .before .before .before .before .before .before .before .before .payload-word .ensures .0) (lent-tables (c .before .before .before .before .before .before .before .before .before .before .before .before .before .before .before .before .standing .result) _ _ _ (c .before .before .before .before .before .before .before .before .before .before .before .before .before .before .robots-of .ensures) (c .before .before .before .before .before .before .before .before .before .before .before .vertices-of .ensures) (c .before .before .before .before .before .before .before .before .before .before .before .before .before .before .before .before .standing .ensures))
     (legal-moves _ _ (c .before .before .before .enum-told .given .0 .0) _ (c .before .before .before .enum-told .given .1) (c .before .before .before .before .before .before .before .replay-moves .ensures m e h .answer)))
 
 returns-4 : tie.Need-returns-4
-returns-4 c = λ m pl e h es eg.
+returns-4 c =
+    λ m pl e h es eg.
     let w : length (c .before .before .before .before .before .before .before .before .before .before .before .before .before .before .before .before .before .before .before .before .before .args .starts) ≡ 64 = search (needs, c .before .before .before .before .before .before .before .before .before .before .before .before .before .before .before .before .before .before .before .before .before .good) in
-    let k : c .before .before .before .before .before .before .before .before .before .before .before .before .before .before .before .before .before .before .before .before .before .args .k ≤ length (c .before .before .before .before .before .before .before .before .before .before .before .before .before .before .before .before .before .before .before .before .before .args .starts) = omega (arith, c .before .before .before .before .before .before .before .before .before .before .before .before .before .before .before .before .before .before .before .before .before .pre .1) in
+    let k : c .before .before .before .before .before .before .before .before .before .before .before .before .before .before .before .before .before .before .before .before .before .args .k ≤ length (c .before .before .before .before .before .before .before .before .before .before .before .before .before .before .before .before .before .before .before .before .before .args .starts) = omega (arith, c .before .before .before .before .before .before .before .before .before .before .before .before .before .before .before .before .before .before .before .before .before .pre .2) in
     let d = c .before .before .before .before .before .before .before .before .replay-moves .ensures m e h in
     let j = c .before .before .before .before .enum-told .given in
     sym (off-some _ _ _ (c .if3 .taken)) ∙ checked-goals m pl _ _ (c .before .before .before .before .before .before .before .before .before .before .before .before .before .before .before .before .before .before .before .before .before .pre .0) _ _ _ (search needs)
@@ -83,9 +87,10 @@ returns-4 c = λ m pl e h es eg.
     (all-moves _ _ _ _ _ (d .reached _ (j .1) .0) (j .1) (d .answer)))
 
 returns-5 : tie.Need-returns-5
-returns-5 c = λ m pl e h es eg.
+returns-5 c =
+    λ m pl e h es eg.
     let w : length (c .before .before .before .before .before .before .before .before .before .before .before .before .before .before .before .before .before .before .before .before .before .args .starts) ≡ 64 = search (needs, c .before .before .before .before .before .before .before .before .before .before .before .before .before .before .before .before .before .before .before .before .before .good) in
-    let k : c .before .before .before .before .before .before .before .before .before .before .before .before .before .before .before .before .before .before .before .before .before .args .k ≤ length (c .before .before .before .before .before .before .before .before .before .before .before .before .before .before .before .before .before .before .before .before .before .args .starts) = omega (arith, c .before .before .before .before .before .before .before .before .before .before .before .before .before .before .before .before .before .before .before .before .before .pre .1) in
+    let k : c .before .before .before .before .before .before .before .before .before .before .before .before .before .before .before .before .before .before .before .before .before .args .k ≤ length (c .before .before .before .before .before .before .before .before .before .before .before .before .before .before .before .before .before .before .before .before .before .args .starts) = omega (arith, c .before .before .before .before .before .before .before .before .before .before .before .before .before .before .before .before .before .before .before .before .before .pre .2) in
     let d = c .before .before .before .before .before .before .before .before .replay-moves .ensures m e h in
     let j = c .before .before .before .before .enum-told .given in
     sym (off-none _ _ _ (c .if3 .left)) ∙ checked-goals m pl _ _ (c .before .before .before .before .before .before .before .before .before .before .before .before .before .before .before .before .before .before .before .before .before .pre .0) _ _ _ (search needs)

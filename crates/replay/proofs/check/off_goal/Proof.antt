@@ -7,8 +7,6 @@ use Rattle.replay.specs.Check.{goals-next, goals-off, goals-all}
 use native.Mathlib.Omega.{arith}
 use Rattle.replay.proofs.check.off_goal.Statement.{statement}
 use Rattle.replay.proofs.check.off_goal.Tie as tie
-use Rattle.replay.proofs.check.off_goal.Reads as reads
-use Rattle.replay.proofs.check.off_goal.Lts as lts
 
 abbrev Inv-loop : tie.InvT-loop
 Inv-loop vertices k goals i₀ i = (i ≤ k) × (length goals ≡ 64) × (onGoals 0 vertices (take k goals) ≡ onGoals i vertices (drop i (take k goals)))

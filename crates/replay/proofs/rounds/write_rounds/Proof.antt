@@ -3,7 +3,7 @@ use Prim.Native.Nat.{_+_, _-_, _*_}
 use mathlib.Core.Path.{_≡_, refl}
 use Rattle.wire.specs.Payload.{placeOf}
 use Rattle.replay.specs.Moves.{fileBytes, three-bytes}
-use Rattle.replay.specs.Rounds.{Timing, timing-start, timing-more, timing-end, entry-small}
+use Rattle.replay.specs.Rounds.{Timing, timing-start, timing-more, timing-end, entry-small, left-entry-small}
 use native.Mathlib.Omega.{arith}
 use Rattle.replay.proofs.rounds.write_rounds.Statement.{statement}
 use Rattle.replay.proofs.rounds.write_rounds.Tie as tie
@@ -60,6 +60,11 @@ mul-left c = search needs
 
 array-write-left : tie.Need-array-write-left Inv-loop μ-loop
 array-write-left c = search needs
+
+cast-put-word-at : tie.Need-cast-put-word-at Inv-loop μ-loop
+cast-put-word-at c =
+    let k = c .before .before .before .before .before .before .before .loop .inv .2 .kept in
+    omega (arith, c .before .before .before .before .before .before .before .before .before .before .pre, c .before .later .ensures, entry-small _ _ _ _ k (c .before .before .before .before .before .three-from .result .first) (search needs), left-entry-small _ _ _ _ k (c .before .before .before .before .before .three-from .result .third) (search needs))
 
 put-word-at-requires : tie.Need-put-word-at-requires Inv-loop μ-loop
 put-word-at-requires c κs = omega (arith, c .before .before .before .before .before .before .before .loop .inv .1, c .before .before .before .before .before .before .before .loop .inv .2 .within)
@@ -120,6 +125,7 @@ write-rounds-spec =
     array-write-last
     mul-left
     array-write-left
+    cast-put-word-at
     put-word-at-requires
     place-after-requires
     word-after-requires

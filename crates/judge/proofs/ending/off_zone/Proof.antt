@@ -1,0 +1,115 @@
+use lib.ListN.{getD}
+use Rattle.spec.specs.Arrangement.{order}
+use Rattle.orders.specs.Orders.{endTest}
+use Rattle.judge.specs.Held.{listIn}
+use Rattle.judge.specs.Filling.{arranged-by}
+use borrow.Author.Needs.{needs}
+use borrow.Author.Tests.{not-true, not-false}
+use mathlib.Core.List.{List}
+use mathlib.Core.Path.{_≡_, refl, sym, ap, _∙_}
+use Prim.Native.Nat.{ℕ, _-_, _≤_, _<_}
+use lib.ListN.{drop}
+use Rattle.spec.specs.Layout.{Map}
+use Rattle.spec.specs.State as meaning
+use Rattle.spec.specs.Run.{goalsFrom}
+use Rattle.spec.specs.Terms.{zoneCount}
+use Rattle.theory.specs.Maps.Consistent.{Consistent}
+use Rattle.motion.specs.States.{stateOf}
+use Rattle.resolve.specs.Given.{Given}
+use Rattle.resolve.specs.Endings.{offZone, goals-next, goals-off, goals-all}
+use Rattle.judge.specs.Held.{Held}
+use Rattle.judge.specs.Judging.{ends-by}
+use Rattle.judge.proofs.ending.off_zone.Statement.{statement}
+use Rattle.judge.proofs.ending.off_zone.Tie as tie
+use Rattle.judge.proofs.ending.off_zone.Reads as reads
+use Rattle.judge.proofs.ending.off_zone.Lts as lts
+use Rattle.judge.proofs.ending.ends_zone.Reads as ends-zone-reads
+use Rattle.motion.proofs.robots_of.Reads as robots-of-reads
+
+abbrev Inv-loop : tie.InvT-loop
+Inv-loop kind first size listed zones cells counts targets z₀ z =
+ (z ≤ zones) × ((m : Map) (n k : ℕ) (zone place : List ℕ) (rows : List (List ℕ)) → Given m n k kind first size listed zone place rows → zoneCount m ≡ zones
+    → (s : meaning.State) → Consistent m k s → Held m first counts cells s → goalsFrom 0 (m .zones) s (stateOf goals) ≡ goalsFrom z (drop z (m .zones)) s (stateOf goals))
+
+abbrev μ-loop : tie.MeasureT-loop
+μ-loop kind first size listed zones cells counts targets z₀ z = zones - z
+
+-- src/ending.rt:108:30
+slice-aggregate-robots-of : tie.Need-slice-aggregate-robots-of Inv-loop μ-loop
+slice-aggregate-robots-of c = search needs
+
+-- src/ending.rt:108:5
+robots-of-requires : tie.Need-robots-of-requires Inv-loop μ-loop
+robots-of-requires c κs = search needs
+
+-- src/ending.rt:110:5
+loop-holds : tie.Need-loop-holds Inv-loop μ-loop
+loop-holds c = (search needs, λ m n k zone place rows d e s h x. refl)
+
+-- src/ending.rt:111:68
+slice-aggregate-ends-zone : tie.Need-slice-aggregate-ends-zone Inv-loop μ-loop
+slice-aggregate-ends-zone c = search needs
+
+-- src/ending.rt:111:13
+ends-zone-requires : tie.Need-ends-zone-requires Inv-loop μ-loop
+ends-zone-requires c κs =
+    let p = c .before .before .before .before .before .before .before .before .pre in
+    let z = c .before .before .loop .z in
+    (p .0 z (c .before .loop-test .taken), p .1 z (c .before .loop-test .taken))
+
+-- src/ending.rt:112:13
+returns : tie.Need-returns Inv-loop μ-loop
+returns c =
+ λ m n k zone place rows d e s h x.
+    let a = c .before .before .before .before .before .before .before .before .before .before .args in
+    let l = c .before .before .before .before .loop in
+    let t : l .z < zoneCount m = rw e (c .before .before .before .loop-test .taken) in
+    sym (l .inv .1 m n k zone place rows d e s h x ∙ goals-off m s (stateOf (a .goals)) (l .z) t
+    (sym (ends-by m n k (a .kind .now) (a .first .now) (a .size .now) (a .listed .now) zone place rows d s (stateOf (a .goals)) (a .counts .now) (a .cells .now) h x (l .z) t) ∙ sym (c .before .ends-zone .ensures ∙ ap (λ (x : List ℕ). endTest (getD (a .kind .now) (l .z) 0) (getD (a .size .now) (l .z) 0) (listIn (a .first .now) (a .counts .now) (a .cells .now) (l .z)) (order x)) (arranged-by (a .goals) _ _ (c .before .before .before .before .before .before .robots-of .ensures))) ∙ not-true _ (c .if1 .taken))
+    ∙ ap (offZone (l .z)) e)
+
+-- src/ending.rt:114:9
+add-z : tie.Need-add-z Inv-loop μ-loop
+add-z c = search needs
+
+-- src/ending.rt:110:5
+loop-less : tie.Need-loop-less Inv-loop μ-loop
+loop-less c = search needs
+
+-- src/ending.rt:110:5
+loop-again : tie.Need-loop-again Inv-loop μ-loop
+loop-again c =
+ (
+  search needs,
+  λ m n k zone place rows d e s h x.
+      let a = c .before .before .before .before .before .before .before .before .before .before .args in
+      let l = c .before .before .before .before .loop in
+      let t : l .z < zoneCount m = rw e (c .before .before .before .loop-test .taken) in
+      l .inv .1 m n k zone place rows d e s h x ∙ goals-next m s (stateOf (a .goals)) (l .z) t
+      (sym (ends-by m n k (a .kind .now) (a .first .now) (a .size .now) (a .listed .now) zone place rows d s (stateOf (a .goals)) (a .counts .now) (a .cells .now) h x (l .z) t) ∙ sym (c .before .ends-zone .ensures ∙ ap (λ (x : List ℕ). endTest (getD (a .kind .now) (l .z) 0) (getD (a .size .now) (l .z) 0) (listIn (a .first .now) (a .counts .now) (a .cells .now) (l .z)) (order x)) (arranged-by (a .goals) _ _ (c .before .before .before .before .before .before .robots-of .ensures))) ∙ not-false _ (c .if1 .left)),
+    )
+
+-- src/ending.rt:94:1
+returns-2 : tie.Need-returns-2 Inv-loop μ-loop
+returns-2 c =
+ λ m n k zone place rows d e s h x.
+    let a = c .before .before .before .before .before .before .before .args in
+    let l = c .before .loop in
+    sym (l .inv .1 m n k zone place rows d e s h x ∙ goals-all m s (stateOf (a .goals)) (l .z) (rw e (c .loop-test .left)) ∙ ap (offZone (l .z)) e)
+
+pub off-zone-spec : {M : Type 1} → statement M
+off-zone-spec =
+    tie.close
+    (tie.spec
+    Inv-loop
+    μ-loop
+    slice-aggregate-robots-of
+    robots-of-requires
+    loop-holds
+    slice-aggregate-ends-zone
+    ends-zone-requires
+    returns
+    add-z
+    loop-less
+    loop-again
+    returns-2)
