@@ -9,7 +9,7 @@ use lib.ListN.{length, getD, set, take, drop, length-drop, drop-of-length-le}
 use lib.Seq.{length-take-le}
 use lib.Dec.{eqb}
 use borrow.Rule.Slice.PartMut.{putMid}
-use Rattle.spec.specs.Layout.{Map, leastSize, zoneAt}
+use Rattle.spec.specs.Layout.{Map, Zone, leastSize, zoneAt}
 use Rattle.spec.specs.Arrangement.{order}
 use Rattle.spec.specs.State.{State, arrangementOf}
 use Rattle.spec.specs.Terms.{zoneCount, kindOf, sizeOf, arrangementIn}
@@ -17,7 +17,9 @@ use Rattle.theory.specs.Maps.Cells as maps
 use Rattle.theory.specs.Zones.Arrangements.{order-short}
 use Rattle.motion.specs.declared.State as code
 use Rattle.motion.specs.States.{stateOf}
-use Rattle.motion.specs.Tables.{onVertices, arrangement-alone}
+use Rattle.motion.specs.Tables.{tabled, onVertices, arrangement-alone}
+use Rattle.spec.specs.Run.{goalsFrom}
+use Rattle.resolve.specs.Alone.{goals-alone}
 use Rattle.motion.specs.Across.{arrangement-length}
 use Rattle.zones.specs.Tables.{verticesIn}
 use Rattle.hall.specs.Line.{Lined}
@@ -151,9 +153,19 @@ filled-all m first counts cells s i h f = record {
 -- ---- the state's table of robots by vertex
 
 -- it shows the arrangements of the state
-pub arranged-by : (s : code.State) (on vs : List ℕ) → on ≡ stateOf s .robots → arrangementOf (onVertices on) vs ≡ arrangementOf (stateOf s) vs
+arranged-by : (s : code.State) (on vs : List ℕ) → on ≡ stateOf s .robots → arrangementOf (onVertices on) vs ≡ arrangementOf (stateOf s) vs
 arranged-by s on vs e = ap (λ (l : List ℕ). arrangementOf (onVertices l) vs) e ∙ arrangement-alone (stateOf s .robots) (stateOf s .vertices) vs
 
--- the same list, spelled in another way
-pub relisted : {first size counts cells : List ℕ} {z : ℕ} {l k counts′ new : List ℕ} → l ≡ k → Listed first size counts cells z l counts′ new → Listed first size counts cells z k counts′ new
-relisted e w = rw e at w
+-- so the lists filled by it are the state's
+pub filled-by : (m : Map) (first counts cells : List ℕ) (s : code.State) (on : List ℕ) (i : ℕ) → on ≡ stateOf s .robots
+    → Filled m first counts cells (onVertices on) i → Filled m first counts cells (stateOf s) i
+filled-by m first counts cells s on i e f = record {
+  lists = λ y l b. f .lists y l b ∙ ap order (arranged-by s on (zoneAt m y .vertices) e);
+  few = f .few;
+}
+
+-- and the goals tested by it
+pub goals-by : (zs : List Zone) (s : State) (g : code.State) (on : List ℕ) → on ≡ stateOf g .robots → goalsFrom 0 zs s (onVertices on) ≡ goalsFrom 0 zs s (stateOf g)
+goals-by zs s g on e =
+    sym (goals-alone 0 zs (s .robots) (s .vertices) on []) ∙ goals-alone 0 zs (s .robots) (s .vertices) on (stateOf g .vertices)
+    ∙ ap (λ (l : List ℕ). goalsFrom 0 zs s (tabled l (stateOf g .vertices))) e

@@ -1,4 +1,4 @@
-use Rattle.spec.specs.Arrangement.{order}
+use Rattle.motion.specs.Tables.{onVertices}
 use borrow.Author.Needs.{needs}
 use mathlib.Core.List.{List}
 use mathlib.Core.Path.{_≡_, ap, _∙_}
@@ -8,7 +8,7 @@ use Rattle.spec.specs.Layout.{Map}
 use Rattle.spec.specs.Terms.{zoneCount}
 use Rattle.motion.specs.States.{stateOf}
 use Rattle.resolve.specs.Given.{Given}
-use Rattle.judge.specs.Filling.{relisted, arranged-by, Filled, filled-none, filled-more, filled-all}
+use Rattle.judge.specs.Filling.{filled-by, Filled, filled-none, filled-more, filled-all}
 use Rattle.judge.proofs.ending.fill_lists.Statement.{statement}
 use Rattle.judge.proofs.ending.fill_lists.Tie as tie
 use Rattle.judge.proofs.ending.fill_lists.Reads as reads
@@ -18,8 +18,8 @@ use Rattle.motion.proofs.robots_of.Reads as robots-of-reads
 
 abbrev Inv-loop : tie.InvT-loop
 Inv-loop first size listed zones cells₀ counts₀ on z₀ cells counts z =
- (z ≤ zones) × (length cells ≡ length listed) × (length counts ≡ 64)
-    × ((m : Map) (n k : ℕ) (kind zone place : List ℕ) (rows : List (List ℕ)) → Given m n k kind first size listed zone place rows → zoneCount m ≡ zones → Filled m first counts cells (stateOf s) z)
+    (z ≤ zones) × (length cells ≡ length listed) × (length counts ≡ 64)
+    × ((m : Map) (n k : ℕ) (kind zone place : List ℕ) (rows : List (List ℕ)) → Given m n k kind first size listed zone place rows → zoneCount m ≡ zones → Filled m first counts cells (onVertices on) z)
 
 abbrev μ-loop : tie.MeasureT-loop
 μ-loop first size listed zones cells₀ counts₀ on z₀ cells counts z = zones - z
@@ -37,7 +37,7 @@ loop-holds : tie.Need-loop-holds Inv-loop μ-loop
 loop-holds c =
     let p = c .before .before .before .before .before .pre in
     let b = c .before .before .before .before .before .args in
-    (search needs, p .1, p .2, λ m n k kind zone place rows d e. filled-none m (b .first .now) (b .counts .now) (b .cells .now) (stateOf (b .s)) (p .3))
+    (search needs, p .1, p .2, λ m n k kind zone place rows d e. filled-none m (b .first .now) (b .counts .now) (b .cells .now) _ (p .3))
 
 -- src/ending.rt:64:19
 slice-aggregate-fill-zone : tie.Need-slice-aggregate-fill-zone Inv-loop μ-loop
@@ -68,7 +68,7 @@ loop-again c =
       ap length (w .count) ∙ length-set (l .counts) (l .z) _ ∙ l .inv .2,
       λ m n k kind zone place rows d e.
           let t : l .z < zoneCount m = rw e (c .before .before .before .before .before .before .loop-test .taken) in
-          filled-more m n k kind (a .first .now) (a .size .now) (a .listed .now) zone place rows d (stateOf (a .s)) (l .counts) (l .cells) _ _ (l .z) (l .inv .1) (l .inv .2) t (l .inv .3 m n k kind zone place rows d e) (relisted (ap order (arranged-by (a .s) _ _ (c .before .before .before .before .before .before .before .before .before .robots-of .ensures))) w),
+          filled-more m n k kind (a .first .now) (a .size .now) (a .listed .now) zone place rows d _ (l .counts) (l .cells) _ _ (l .z) (l .inv .1) (l .inv .2) t (l .inv .3 m n k kind zone place rows d e) w,
     )
 
 -- src/ending.rt:48:1
@@ -82,7 +82,7 @@ returns c =
     let l = c .before .loop in (
       l .inv .1,
       l .inv .2,
-      λ m n k kind zone place rows d e h. filled-all m (a .first .now) (l .counts) (l .cells) (stateOf (a .s)) (l .z) (rw e (c .loop-test .left)) (l .inv .3 m n k kind zone place rows d e),
+      λ m n k kind zone place rows d e h. filled-all m (a .first .now) (l .counts) (l .cells) (stateOf (a .s)) (l .z) (rw e (c .loop-test .left)) (filled-by m (a .first .now) (l .counts) (l .cells) (a .s) _ (l .z) (c .before .before .before .robots-of .ensures) (l .inv .3 m n k kind zone place rows d e)),
     )
 
 pub fill-lists-spec : {M : Type 1} → statement M

@@ -1,8 +1,5 @@
-use lib.ListN.{getD}
-use Rattle.spec.specs.Arrangement.{order}
-use Rattle.orders.specs.Orders.{endTest}
-use Rattle.judge.specs.Held.{listIn}
-use Rattle.judge.specs.Filling.{arranged-by}
+use Rattle.motion.specs.Tables.{onVertices}
+use Rattle.judge.specs.Filling.{goals-by}
 use borrow.Author.Needs.{needs}
 use borrow.Author.Tests.{not-true, not-false}
 use mathlib.Core.List.{List}
@@ -28,8 +25,8 @@ use Rattle.motion.proofs.robots_of.Reads as robots-of-reads
 
 abbrev Inv-loop : tie.InvT-loop
 Inv-loop kind first size listed zones cells counts targets z₀ z =
- (z ≤ zones) × ((m : Map) (n k : ℕ) (zone place : List ℕ) (rows : List (List ℕ)) → Given m n k kind first size listed zone place rows → zoneCount m ≡ zones
-    → (s : meaning.State) → Consistent m k s → Held m first counts cells s → goalsFrom 0 (m .zones) s (stateOf goals) ≡ goalsFrom z (drop z (m .zones)) s (stateOf goals))
+    (z ≤ zones) × ((m : Map) (n k : ℕ) (zone place : List ℕ) (rows : List (List ℕ)) → Given m n k kind first size listed zone place rows → zoneCount m ≡ zones
+    → (s : meaning.State) → Consistent m k s → Held m first counts cells s → goalsFrom 0 (m .zones) s (onVertices targets) ≡ goalsFrom z (drop z (m .zones)) s (onVertices targets))
 
 abbrev μ-loop : tie.MeasureT-loop
 μ-loop kind first size listed zones cells counts targets z₀ z = zones - z
@@ -60,13 +57,13 @@ ends-zone-requires c κs =
 -- src/ending.rt:112:13
 returns : tie.Need-returns Inv-loop μ-loop
 returns c =
- λ m n k zone place rows d e s h x.
+    λ m n k zone place rows d e s h x.
     let a = c .before .before .before .before .before .before .before .before .before .before .args in
     let l = c .before .before .before .before .loop in
     let t : l .z < zoneCount m = rw e (c .before .before .before .loop-test .taken) in
-    sym (l .inv .1 m n k zone place rows d e s h x ∙ goals-off m s (stateOf (a .goals)) (l .z) t
-    (sym (ends-by m n k (a .kind .now) (a .first .now) (a .size .now) (a .listed .now) zone place rows d s (stateOf (a .goals)) (a .counts .now) (a .cells .now) h x (l .z) t) ∙ sym (c .before .ends-zone .ensures ∙ ap (λ (x : List ℕ). endTest (getD (a .kind .now) (l .z) 0) (getD (a .size .now) (l .z) 0) (listIn (a .first .now) (a .counts .now) (a .cells .now) (l .z)) (order x)) (arranged-by (a .goals) _ _ (c .before .before .before .before .before .before .robots-of .ensures))) ∙ not-true _ (c .if1 .taken))
-    ∙ ap (offZone (l .z)) e)
+    sym (l .inv .1 m n k zone place rows d e s h x ∙ goals-off m s _ (l .z) t
+    (sym (ends-by m n k (a .kind .now) (a .first .now) (a .size .now) (a .listed .now) zone place rows d s _ (a .counts .now) (a .cells .now) h x (l .z) t) ∙ sym (c .before .ends-zone .ensures) ∙ not-true _ (c .if1 .taken))
+    ∙ ap (offZone (l .z)) e) ∙ goals-by (m .zones) s (a .goals) _ (c .before .before .before .before .before .before .robots-of .ensures)
 
 -- src/ending.rt:114:9
 add-z : tie.Need-add-z Inv-loop μ-loop
@@ -78,24 +75,23 @@ loop-less c = search needs
 
 -- src/ending.rt:110:5
 loop-again : tie.Need-loop-again Inv-loop μ-loop
-loop-again c =
- (
+loop-again c = (
   search needs,
   λ m n k zone place rows d e s h x.
       let a = c .before .before .before .before .before .before .before .before .before .before .args in
       let l = c .before .before .before .before .loop in
       let t : l .z < zoneCount m = rw e (c .before .before .before .loop-test .taken) in
-      l .inv .1 m n k zone place rows d e s h x ∙ goals-next m s (stateOf (a .goals)) (l .z) t
-      (sym (ends-by m n k (a .kind .now) (a .first .now) (a .size .now) (a .listed .now) zone place rows d s (stateOf (a .goals)) (a .counts .now) (a .cells .now) h x (l .z) t) ∙ sym (c .before .ends-zone .ensures ∙ ap (λ (x : List ℕ). endTest (getD (a .kind .now) (l .z) 0) (getD (a .size .now) (l .z) 0) (listIn (a .first .now) (a .counts .now) (a .cells .now) (l .z)) (order x)) (arranged-by (a .goals) _ _ (c .before .before .before .before .before .before .robots-of .ensures))) ∙ not-false _ (c .if1 .left)),
-    )
+      l .inv .1 m n k zone place rows d e s h x ∙ goals-next m s _ (l .z) t
+      (sym (ends-by m n k (a .kind .now) (a .first .now) (a .size .now) (a .listed .now) zone place rows d s _ (a .counts .now) (a .cells .now) h x (l .z) t) ∙ sym (c .before .ends-zone .ensures) ∙ not-false _ (c .if1 .left)),
+)
 
 -- src/ending.rt:94:1
 returns-2 : tie.Need-returns-2 Inv-loop μ-loop
 returns-2 c =
- λ m n k zone place rows d e s h x.
+    λ m n k zone place rows d e s h x.
     let a = c .before .before .before .before .before .before .before .args in
     let l = c .before .loop in
-    sym (l .inv .1 m n k zone place rows d e s h x ∙ goals-all m s (stateOf (a .goals)) (l .z) (rw e (c .loop-test .left)) ∙ ap (offZone (l .z)) e)
+    sym (l .inv .1 m n k zone place rows d e s h x ∙ goals-all m s _ (l .z) (rw e (c .loop-test .left)) ∙ ap (offZone (l .z)) e) ∙ goals-by (m .zones) s (a .goals) _ (c .before .before .before .robots-of .ensures)
 
 pub off-zone-spec : {M : Type 1} → statement M
 off-zone-spec =
