@@ -1,20 +1,19 @@
 -- The lists of all zones in one row of bytes: zone z's stands from first[z] on and has counts[z] robots.
-use mathlib.Core.Path.{_≡_, refl, sym, ap, subst, _∙_}
+use mathlib.Core.Path.{_≡_, sym, ap, subst, _∙_}
 use mathlib.Core.Logic.{_≢_, _⊎_, inl, inr}
-use mathlib.Core.List.{List, [], _∷_, _++_, append-nil}
+use mathlib.Core.List.{List, _++_, append-nil}
 use borrow.Rule.Slice.PartMut.{putMid, post-is}
-use Prim.Native.Nat.{ℕ, zero, suc, _+_, _-_, _≤_, _<_}
+use Prim.Native.Nat.{ℕ, suc, _+_, _-_, _≤_, _<_}
 use native.Mathlib.Omega.{arith}
-use native.Mathlib.Decide.{ℕ-discrete, decLt, decLe}
-use lib.ListN.{length, getD, set, take, drop, length-append, length-set, length-drop, List·getD-append}
-use lib.Seq.{length-take-le, getD-take, getD-drop, getD-set-same, getD-set-other, ext-getD, getD-append-add, drop-append-seam, take-all, drop-length}
+use native.Mathlib.Decide.{ℕ-discrete, decLe}
+use lib.ListN.{length, getD, set, take, drop, length-append, length-set, length-drop}
+use lib.Seq.{length-take-le, getD-take, getD-drop, getD-set-same, getD-set-other, ext-getD, take-all, drop-length}
 use Rattle.spec.specs.Layout.{Map, zoneOf, zoneAt}
 use Rattle.spec.specs.State.{State, movedAll}
 use Rattle.spec.specs.Outcome.{indexOf}
 use Rattle.spec.specs.Arrangement.{cell}
 use Rattle.theory.specs.Zones.Crossing.{kept, Absent}
 use Rattle.spec.specs.Terms.{zoneCount, kindOf, sizeOf, vertexAt, placeOf, arrangementIn}
-use Rattle.theory.specs.Maps.Layout.{Accepted}
 use Rattle.theory.specs.Maps.Cells.{arrangement-length}
 use Rattle.theory.specs.Maps.Consistent.{Consistent}
 use Rattle.theory.specs.Plans.Taken.{Taken, movesOf}
@@ -206,11 +205,9 @@ module _ (m : Map) (n k : ℕ) (kind first size listed zone place : List ℕ) (r
     holds-short z l q h = omega (arith, h .fits, arrangement-length q (zoneAt m z))
 
     -- the robot is taken out of one list and put into the other
-    module _ (cells₁ counts₁ cells₂ counts₂ : List ℕ)
+    module _ (cells₁ counts₁ : List ℕ)
         (c₁ : Changed cells (getD first (zoneOf m u) 0) (sizeOf m (zoneOf m u)) (without (indexOf r leftList) leftList) cells₁)
-        (e₁ : counts₁ ≡ set counts (zoneOf m u) (length (without (indexOf r leftList) leftList)))
-        (c₂ : Changed cells₁ (getD first (zoneOf m v) 0) (sizeOf m (zoneOf m v)) (entered (kindOf m (zoneOf m v)) (sizeOf m (zoneOf m v)) (listIn first counts₁ cells₁ (zoneOf m v)) r (placeOf m v) behind list) cells₂)
-        (e₂ : counts₂ ≡ set counts₁ (zoneOf m v) (length (entered (kindOf m (zoneOf m v)) (sizeOf m (zoneOf m v)) (listIn first counts₁ cells₁ (zoneOf m v)) r (placeOf m v) behind list))) where
+        (e₁ : counts₁ ≡ set counts (zoneOf m u) (length (without (indexOf r leftList) leftList))) where
       -- after the first change
       pos-u : 0 < sizeOf m (zoneOf m u)
       pos-u = omega (arith, d .accepted .placed u (t .from) .place)
@@ -240,37 +237,40 @@ module _ (m : Map) (n k : ℕ) (kind first size listed zone place : List ℕ) (r
       pub still : listIn first counts₁ cells₁ (zoneOf m v) ≡ enteredList
       still = away₁ (zoneOf m v) zone-v (λ e. t .apart (sym e))
 
-      -- the new list
-      abbrev newList : List ℕ
-      newList = entered (kindOf m (zoneOf m v)) (sizeOf m (zoneOf m v)) (listIn first counts₁ cells₁ (zoneOf m v)) r (placeOf m v) behind list
+      module _ (cells₂ counts₂ : List ℕ)
+          (c₂ : Changed cells₁ (getD first (zoneOf m v) 0) (sizeOf m (zoneOf m v)) (entered (kindOf m (zoneOf m v)) (sizeOf m (zoneOf m v)) (listIn first counts₁ cells₁ (zoneOf m v)) r (placeOf m v) behind list) cells₂)
+          (e₂ : counts₂ ≡ set counts₁ (zoneOf m v) (length (entered (kindOf m (zoneOf m v)) (sizeOf m (zoneOf m v)) (listIn first counts₁ cells₁ (zoneOf m v)) r (placeOf m v) behind list))) where
+        -- the new list
+        abbrev newList : List ℕ
+        newList = entered (kindOf m (zoneOf m v)) (sizeOf m (zoneOf m v)) (listIn first counts₁ cells₁ (zoneOf m v)) r (placeOf m v) behind list
 
-      new-holds : Holds (kindOf m (zoneOf m v)) newList (arrangementIn m after (zoneOf m v))
-      new-holds = rw still come-holds
+        new-holds : Holds (kindOf m (zoneOf m v)) newList (arrangementIn m after (zoneOf m v))
+        new-holds = rw still come-holds
 
-      short-v : length newList ≤ sizeOf m (zoneOf m v)
-      short-v = holds-short (zoneOf m v) newList after new-holds
+        short-v : length newList ≤ sizeOf m (zoneOf m v)
+        short-v = holds-short (zoneOf m v) newList after new-holds
 
-      -- every list stands for its zone after the step
-      pub step-held : Held m first counts₂ cells₂ after
-      step-held = record {
-        stands = λ z h. pick z h (ℕ-discrete z (zoneOf m v)) (ℕ-discrete z (zoneOf m u));
-        few = still-few counts₁ cells₁ room₁ many₁ few₁ (zoneOf m v) zone-v pos-v newList cells₂ c₂ short-v counts₂ e₂;
-      }
-        where
-          here₂ : listIn first counts₂ cells₂ (zoneOf m v) ≡ newList
-          here₂ = list-here counts₁ cells₁ room₁ many₁ few₁ (zoneOf m v) zone-v pos-v newList cells₂ c₂ short-v counts₂ e₂
+        -- every list stands for its zone after the step
+        pub step-held : Held m first counts₂ cells₂ after
+        step-held = record {
+          stands = λ z h. pick z h (ℕ-discrete z (zoneOf m v)) (ℕ-discrete z (zoneOf m u));
+          few = still-few counts₁ cells₁ room₁ many₁ few₁ (zoneOf m v) zone-v pos-v newList cells₂ c₂ short-v counts₂ e₂;
+        }
+          where
+            here₂ : listIn first counts₂ cells₂ (zoneOf m v) ≡ newList
+            here₂ = list-here counts₁ cells₁ room₁ many₁ few₁ (zoneOf m v) zone-v pos-v newList cells₂ c₂ short-v counts₂ e₂
 
-          away₂ : (y : ℕ) → y < zoneCount m → y ≢ zoneOf m v → listIn first counts₂ cells₂ y ≡ listIn first counts₁ cells₁ y
-          away₂ = list-away counts₁ cells₁ room₁ many₁ few₁ (zoneOf m v) zone-v pos-v newList cells₂ c₂ short-v counts₂ e₂
+            away₂ : (y : ℕ) → y < zoneCount m → y ≢ zoneOf m v → listIn first counts₂ cells₂ y ≡ listIn first counts₁ cells₁ y
+            away₂ = list-away counts₁ cells₁ room₁ many₁ few₁ (zoneOf m v) zone-v pos-v newList cells₂ c₂ short-v counts₂ e₂
 
-          pick : (z : ℕ) → z < zoneCount m → Dec (z ≡ zoneOf m v) → Dec (z ≡ zoneOf m u) → Holds (kindOf m z) (listIn first counts₂ cells₂ z) (arrangementIn m after z)
-          pick z h (yes q) b = rw q (rw here₂ new-holds)
-          pick z h (no q) (yes b) = rw (away₂ z h q) (rw b (rw here₁ left-holds))
-          pick z h (no q) (no b) = rw (away₂ z h q, away₁ z h b, done .away z h b q) (held .stands z h)
+            pick : (z : ℕ) → z < zoneCount m → Dec (z ≡ zoneOf m v) → Dec (z ≡ zoneOf m u) → Holds (kindOf m z) (listIn first counts₂ cells₂ z) (arrangementIn m after z)
+            pick z h (yes q) b = rw q (rw here₂ new-holds)
+            pick z h (no q) (yes b) = rw (away₂ z h q) (rw b (rw here₁ left-holds))
+            pick z h (no q) (no b) = rw (away₂ z h q, away₁ z h b, done .away z h b q) (held .stands z h)
 
-      -- as many counts, and as long a row
-      pub step-many : length counts₂ ≡ 64
-      step-many = still-many counts₁ cells₁ room₁ many₁ few₁ (zoneOf m v) zone-v pos-v newList cells₂ c₂ short-v counts₂ e₂
+        -- as many counts, and as long a row
+        pub step-many : length counts₂ ≡ 64
+        step-many = still-many counts₁ cells₁ room₁ many₁ few₁ (zoneOf m v) zone-v pos-v newList cells₂ c₂ short-v counts₂ e₂
 
-      pub step-room : length cells₂ ≡ length listed
-      step-room = c₂ .long ∙ room₁
+        pub step-room : length cells₂ ≡ length listed
+        step-room = c₂ .long ∙ room₁

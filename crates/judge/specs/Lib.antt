@@ -1,7 +1,11 @@
 -- Judging on configurations.
 pub mod Lists
-pub mod Zone
+pub mod Members
+pub mod Leaving
+pub mod Entering
+pub mod Goals
 pub mod Held
+pub mod Finding
 pub mod Steps
 pub mod Making
 pub mod Filling

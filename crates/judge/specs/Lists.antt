@@ -1,11 +1,12 @@
 -- Lists of robots in lent bytes: the first elements are the list, and what stands behind them is left as it is.
-use mathlib.Core.Path.{_≡_, refl, sym, ap, _∙_}
-use mathlib.Core.List.{List, [], _∷_, _++_}
-use Prim.Native.Nat.{ℕ, zero, suc, _+_, _-_, _≤_, _<_}
+use mathlib.Core.Path.{_≡_, refl, sym, ap, ap₂, _∙_}
+use mathlib.Core.List.{List, _∷_, _++_}
+use Prim.Native.Nat.{ℕ, suc, _+_, _-_, _≤_, _<_}
 use native.Mathlib.Omega.{arith}
 use native.Mathlib.Decide.{ℕ-discrete, decLt}
-use lib.ListN.{length, getD, set, take, drop, length-append, length-set, length-drop, List·getD-append}
-use lib.Seq.{length-take-le, getD-take, getD-drop, getD-set-same, getD-set-other, ext-getD, getD-append-add}
+use lib.ListN.{length, getD, set, take, drop, length-append, length-set, length-drop, drop-of-length-le, List·getD-append}
+use borrow.Rule.Slice.PartMut.{putMid, same-len-mid}
+use lib.Seq.{length-take-le, getD-take, getD-drop, getD-set-same, getD-set-other, ext-getD, getD-append-add, take-at, take-all}
 use Rattle.orders.specs.Orders.{without, putIn, turnedBy}
 use Rattle.orders.specs.Lengths.{without-length, put-length}
 
@@ -19,6 +20,10 @@ pub record Rewritten (p : List ℕ) (n : ℕ) (l : List ℕ) (q : List ℕ) : Ty
 pub wider : {p : List ℕ} {n : ℕ} {l q : List ℕ} (m : ℕ) → n ≤ m → Rewritten p n l q → Rewritten p m l q
 wider m h w = record { long = w .long; here = w .here; past = λ k b. w .past k (omega arith) }
 
+-- what is put first is an equal list
+pub put-as : (p : List ℕ) (n : ℕ) (l o q : List ℕ) → l ≡ o → Rewritten p n l q → Rewritten p n o q
+put-as p n l o q e w = rw e at w
+
 -- ---- appended lists, element by element
 
 -- an element of the first
@@ -30,6 +35,31 @@ pub append-right : (xs ys : List ℕ) (n k : ℕ) → length xs ≡ n → n ≤ 
 append-right xs ys n k e h =
     let q : k ≡ length xs + (k - n) = omega (arith, e) in
     ap (λ (i : ℕ). getD (xs ++ ys) i 0) q ∙ getD-append-add xs ys (k - n) 0
+
+-- ---- a part in the middle put back, element by element
+
+module _ (p s : List ℕ) (a c : ℕ) (fits : a + c ≤ length p) (e : length s ≡ c) where
+  -- what stands before it
+  front : length (take a p) ≡ a
+  front = length-take-le a p (omega arith)
+
+  mid-before : (k : ℕ) → k < a → getD (putMid a c p s) k 0 ≡ getD p k 0
+  mid-before k h = append-left (take a p) (s ++ drop c (drop a p)) a k front h ∙ getD-take a p k 0 h
+
+  -- the part
+  mid-in : (k : ℕ) → a ≤ k → k < a + c → getD (putMid a c p s) k 0 ≡ getD s (k - a) 0
+  mid-in k h l = append-right (take a p) (s ++ drop c (drop a p)) a k front h ∙ append-left s (drop c (drop a p)) c (k - a) e (omega arith)
+
+  -- what stands behind it
+  mid-after : (k : ℕ) → a + c ≤ k → getD (putMid a c p s) k 0 ≡ getD p k 0
+  mid-after k h =
+      let back : a + (c + (k - a - c)) ≡ k = omega arith in
+      append-right (take a p) (s ++ drop c (drop a p)) a k front (omega arith) ∙ append-right s (drop c (drop a p)) c (k - a) e (omega arith)
+      ∙ getD-drop c (drop a p) (k - a - c) 0 ∙ getD-drop a p (c + (k - a - c)) 0 ∙ ap (λ (i : ℕ). getD p i 0) back
+
+-- an element of the part that was lent
+lent-at : (p : List ℕ) (a c i k : ℕ) → i < c → a + i ≡ k → getD (take c (drop a p)) i 0 ≡ getD p k 0
+lent-at p a c i k h e = getD-take c (drop a p) i 0 h ∙ getD-drop a p i 0 ∙ ap (λ (x : ℕ). getD p x 0) e
 
 -- ---- an element taken out
 
@@ -56,6 +86,22 @@ shift-more p t i q h l s = record {
     case : (k : ℕ) → t ≤ k → k < i + 1 → Dec (k ≡ i) → getD (set q i (getD q (i + 1) 0)) k 0 ≡ getD p (k + 1) 0
     case k b d (yes e) = rw e (getD-set-same q i _ 0 (omega (arith, s .long)) ∙ s .past (i + 1) (omega arith))
     case k b d (no n) = getD-set-other q i k _ 0 n ∙ s .over k b (omega arith)
+
+-- in the part from element t to n
+pub shift-mid : (p s : List ℕ) (n t : ℕ) → t < n → n ≤ length p → Shifting (take (n - t) (drop t p)) 0 (length (take (n - t) (drop t p)) - 1) s → Shifting p t (n - 1) (putMid t (n - t) p s)
+shift-mid p s n t h l x =
+    let m : length (take (n - t) (drop t p)) ≡ n - t = length-take-le (n - t) (drop t p) (omega (arith, length-drop t p)) in
+    let e : length s ≡ n - t = x .long ∙ m in
+    record {
+      long = same-len-mid t (n - t) p s (x .long);
+      under = λ k b. mid-before p s t (n - t) (omega arith) e k b;
+      over = λ k b d. mid-in p s t (n - t) (omega arith) e k b (omega arith) ∙ x .over (k - t) (omega arith) (omega (arith, m)) ∙ lent-at p t (n - t) (k - t + 1) (k + 1) (omega arith) (omega arith);
+      past = λ k b. last k b (decLt k n) m e;
+    }
+  where
+    last : (k : ℕ) → n - 1 ≤ k → Dec (k < n) → length (take (n - t) (drop t p)) ≡ n - t → length s ≡ n - t → getD (putMid t (n - t) p s) k 0 ≡ getD p k 0
+    last k b (yes d) m e = mid-in p s t (n - t) (omega arith) e k (omega arith) (omega arith) ∙ x .past (k - t) (omega (arith, m)) ∙ lent-at p t (n - t) (k - t) k (omega arith) (omega arith)
+    last k b (no d) m e = mid-after p s t (n - t) (omega arith) e k (omega arith)
 
 -- a list without an element, element by element
 without-under : (t : ℕ) (l : List ℕ) (k : ℕ) → t < length l → k < t → getD (without t l) k 0 ≡ getD l k 0
@@ -115,6 +161,24 @@ part-more p n i q z h l s = record {
         let f : i - 1 ≡ k = omega arith in
         rw e (getD-set-same q i _ 0 (omega (arith, s .long)) ∙ s .under (i - 1) (omega arith)) ∙ ap (λ (x : ℕ). getD p x 0) f
     case k b d (no m) = getD-set-other q i (k + 1) _ 0 m ∙ s .over k (omega arith) d
+
+-- in the part from element t to n, with it
+pub part-mid : (p s : List ℕ) (n t e : ℕ) → t ≤ n → n < length p → e ≡ n + 1 → Parting (take (e - t) (drop t p)) (length (take (e - t) (drop t p)) - 1) 0 s → Parting p n t (putMid t (e - t) p s)
+part-mid p s n t e h l q x =
+    let m : length (take (e - t) (drop t p)) ≡ e - t = length-take-le (e - t) (drop t p) (omega (arith, length-drop t p)) in
+    let c : length s ≡ e - t = x .long ∙ m in
+    record {
+      long = same-len-mid t (e - t) p s (x .long);
+      under = λ k b. first k b (decLt k t) m c;
+      over = λ k b d.
+          let f : k + 1 - t ≡ k - t + 1 = omega arith in
+          mid-in p s t (e - t) (omega arith) c (k + 1) (omega arith) (omega arith) ∙ ap (λ (i : ℕ). getD s i 0) f ∙ x .over (k - t) (omega arith) (omega (arith, m)) ∙ lent-at p t (e - t) (k - t) k (omega arith) (omega arith);
+      past = λ k b. mid-after p s t (e - t) (omega arith) c k (omega arith);
+    }
+  where
+    first : (k : ℕ) → k ≤ t → Dec (k < t) → length (take (e - t) (drop t p)) ≡ e - t → length s ≡ e - t → getD (putMid t (e - t) p s) k 0 ≡ getD p k 0
+    first k b (yes d) m c = mid-before p s t (e - t) (omega arith) c k d
+    first k b (no d) m c = mid-in p s t (e - t) (omega arith) c k (omega arith) (omega arith) ∙ x .under (k - t) (omega arith) ∙ lent-at p t (e - t) (k - t) k (omega arith) (omega arith)
 
 -- a list with an element more, element by element
 put-under : (t r : ℕ) (l : List ℕ) (k : ℕ) → t ≤ length l → k < t → getD (putIn t r l) k 0 ≡ getD l k 0
@@ -200,6 +264,16 @@ store-all p l i q h e s =
 pub stored-whole : (p l q : List ℕ) → length l ≡ length p → Rewritten p (length l) l q → q ≡ l
 stored-whole p l q e w = sym (lib.Seq.take-all (length l) q (omega (arith, w .long))) ∙ w .here
 
+-- the first n are a list, and the rest behind them
+pub fill-first : (p l : List ℕ) (n : ℕ) → length l ≡ n → n ≤ length p → Rewritten p n l (l ++ drop n p)
+fill-first p l n e h = record {
+  long = omega (arith, length-append l (drop n p), length-drop n p, e);
+  here = take-at l (drop n p) (length l) refl;
+  past = λ k d.
+      let back : n + (k - n) ≡ k = omega arith in
+      append-right l (drop n p) n k e d ∙ getD-drop n p (k - n) 0 ∙ ap (λ (i : ℕ). getD p i 0) back;
+}
+
 -- ---- a list turned
 
 -- element k of a list read from its element q on
@@ -274,3 +348,20 @@ module _ (l : List ℕ) (q i at : ℕ) (c : List ℕ) (x : ℕ) (hq : q < length
 -- all are read
 pub read-all : (l : List ℕ) (q i at : ℕ) (c : List ℕ) → q < length l → length l ≤ i → Reading l q i at c → c ≡ turnedBy q l
 read-all l q i at c hq h r = ext-getD 0 c (turnedBy q l) (r .long ∙ sym (turnedBy-length q l (omega arith))) (λ k b. r .under k (omega (arith, r .long)))
+
+-- turning by the whole length changes nothing
+turned-all : (n : ℕ) (l : List ℕ) → length l ≡ n → turnedBy n l ≡ l
+unfolding turnedBy
+turned-all n l e = ap₂ (λ (x y : List ℕ). x ++ y) (drop-of-length-le l {i = n} (omega arith)) (take-all n l (omega arith))
+
+pub turn-none : (p : List ℕ) (n q : ℕ) → n ≤ length p → q ≡ n → Rewritten p n (turnedBy q (take n p)) p
+turn-none p n q h e =
+    let long : length (take n p) ≡ n = length-take-le n p h in
+    let same : take n p ≡ turnedBy q (take n p) = sym (turned-all n (take n p) long) ∙ ap (λ (k : ℕ). turnedBy k (take n p)) (sym e) in
+    put-as p n (take n p) (turnedBy q (take n p)) p same (record { long = refl; here = ap (λ (k : ℕ). take k p) long; past = λ k b. refl })
+
+-- the first n turned, and the rest behind them
+pub turn-some : (p x : List ℕ) (n q : ℕ) → n ≤ length p → q < n → x ≡ turnedBy q (take n p) → Rewritten p n (turnedBy q (take n p)) (x ++ drop n p)
+turn-some p x n q h b e =
+    let long : length x ≡ n = ap length e ∙ turnedBy-length q (take n p) (omega (arith, length-take-le n p h)) ∙ length-take-le n p h in
+    put-as p n x (turnedBy q (take n p)) (x ++ drop n p) e (fill-first p x n long h)

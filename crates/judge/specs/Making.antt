@@ -1,12 +1,11 @@
 -- The lists after a step: the robot is taken out of one and put into the other.
-use mathlib.Core.Path.{_≡_, refl, sym, ap, subst, _∙_}
+use mathlib.Core.Path.{_≡_, sym, ap, subst, _∙_}
 use mathlib.Core.Logic.{_≢_}
-use mathlib.Core.Bool.{Bool, true, false}
-use mathlib.Core.List.{List, _++_}
+use mathlib.Core.List.{List}
 use Prim.Native.Nat.{ℕ, suc, _+_, _-_, _*_, _/_, _≤_, _<_}
 use native.Mathlib.Omega.{arith}
-use lib.ListN.{length, getD, set, take, drop, length-drop}
-use lib.Dec.{T, T-not, ltb, ltb→lt}
+use lib.ListN.{length, getD, set, take, drop}
+use lib.Dec.{T, T-not, ltb→lt}
 use lib.Seq.{getD-set-other}
 use native.Mathlib.Decide.{ℕ-discrete}
 use Rattle.spec.specs.Outcome.{indexOf, member}
@@ -18,7 +17,7 @@ use Rattle.spec.specs.Terms.{zoneCount, kindOf, sizeOf, placeOf, arrangementIn}
 use Rattle.theory.specs.Basics.Tests.{true-of, of-true}
 use Rattle.theory.specs.Maps.Consistent.{Consistent}
 use Rattle.theory.specs.Zones.Arrangements.{cell→member}
-use Rattle.theory.specs.Zones.Crossing.{kept, extraOf}
+use Rattle.theory.specs.Zones.Crossing.{kept}
 use Rattle.theory.specs.Plans.Taken.{Taken, movesOf}
 use Rattle.theory.specs.Plans.Step.{proper}
 use Rattle.wire.specs.Payload.{payload, held-length}
@@ -26,7 +25,6 @@ use Rattle.wire.specs.Payload as wire
 use Rattle.hall.specs.Reach.{member-index}
 use Rattle.orders.specs.Orders.{Holds, packed, without, entered}
 use Rattle.orders.specs.Packed.{packed-order}
-use Rattle.orders.specs.Lengths.{without-length, entered-length}
 use Rattle.resolve.specs.Tests.{Passes, stepMoves}
 use Rattle.resolve.specs.Given.{Given, zone-is, kind-is, place-is, kindAt}
 use Rattle.resolve.specs.Held.{heldPart, held-same}
@@ -57,16 +55,17 @@ pub record Marching (f : List ℕ) (o e : ℕ) (kind first size listed zone plac
   pub most : len ≤ length f / 512 * 504
   pub passes : Passes map k (take len (payload f)) o state e
 
--- robot r is in the list of vertex u's zone
-pub record TakesOut (first size zone place counts cells : List ℕ) (r u : ℕ) : Type 0 where
+-- the list of vertex u's zone has an element t
+pub record TakesOut (first size zone place counts cells : List ℕ) (u t : ℕ) : Type 0 where
   pub at : Fits first size zone place counts cells u
-  pub in-list : indexOf r (listIn first counts cells (getD zone u 0)) < getD counts (getD zone u 0) 0
+  pub in-list : t < getD counts (getD zone u 0) 0
 
--- there is room in the list of vertex v's zone, and the follow list has e bytes
-pub record PutsIn (kind first size zone place counts cells : List ℕ) (e v : ℕ) : Type 0 where
+-- there is room in the list of vertex v's zone; the follow list has e bytes, and where it has none t is an index at which a robot can come in
+pub record PutsIn (kind first size zone place counts cells : List ℕ) (e v t : ℕ) : Type 0 where
   pub at : Fits first size zone place counts cells v
   pub free : getD counts (getD zone v 0) 0 < getD size (getD zone v 0) 0
   pub extra : e ≡ extraOn (kindAt kind zone v) (getD size (getD zone v 0) 0) (getD counts (getD zone v 0) 0)
+  pub index : e ≡ 0 → t ≤ getD counts (getD zone v 0) 0
 
 -- the list of vertex u's zone is l now
 pub record Listed (first size counts cells : List ℕ) (z : ℕ) (l counts′ new : List ℕ) : Type 0 where
@@ -137,10 +136,11 @@ module _ (f : List ℕ) (o e : ℕ) (kind first size listed zone place counts ce
     long-at : (z : ℕ) → z < zoneCount (mr .map) → length (listIn first counts cells z) ≡ getD counts z 0
     long-at = counted (mr .map) (mr .n) (mr .k) kind first size listed zone place (mr .rows) (mr .given) (mr .state) (mr .consistent) counts cells (mr .held) (mr .room) (mr .many)
 
-    pub marching-out : TakesOut first size zone place counts cells r u
-    marching-out = record {
+    -- so it can be taken out of it
+    pub marching-out : (t : ℕ) → t ≡ indexOf r (listIn first counts cells (getD zone u 0)) → TakesOut first size zone place counts cells u t
+    marching-out t e = record {
       at = fits (mr .map) (mr .n) (mr .k) kind first size listed zone place (mr .rows) (mr .given) (mr .state) (mr .consistent) counts cells (mr .held) (mr .room) (mr .many) u small-u;
-      in-list = rw zone-u (omega (arith, in-list, long-at (zoneOf (mr .map) u) range-u));
+      in-list = rw (e, zone-u) (omega (arith, in-list, long-at (zoneOf (mr .map) u) range-u));
     }
 
     module _ (counts₁ cells₁ : List ℕ)
@@ -192,8 +192,8 @@ module _ (f : List ℕ) (o e : ℕ) (kind first size listed zone place counts ce
           (long-at (zoneOf (mr .map) v) range-v)))
 
       -- so the robot can be put into its list
-      pub marching-in : PutsIn kind first size zone place counts₁ cells₁ e v
-      marching-in = record {
+      pub marching-in : (t : ℕ) → (e ≡ 0 → t ≤ getD counts (getD zone v 0) 0) → PutsIn kind first size zone place counts₁ cells₁ e v t
+      marching-in t h = record {
         at = record {
           below = at-v .below;
           inside = at-v .inside;
@@ -206,7 +206,12 @@ module _ (f : List ℕ) (o e : ℕ) (kind first size listed zone place counts ce
         };
         free = omega (arith, has-room, kept-count);
         extra = rw kept-count extra-v;
+        index = λ z. omega (arith, h z, kept-count);
       }
+
+      -- its list is the same still
+      pub marching-still : listIn first counts cells (getD zone v 0) ≡ listIn first counts₁ cells₁ (getD zone v 0)
+      marching-still = rw zone-v (sym (still (mr .map) (mr .n) (mr .k) kind first size listed zone place (mr .rows) (mr .given) (mr .state) (mr .consistent) counts cells (mr .room) (mr .many) (mr .held) r u v behind list taken cells₁ counts₁ change₁ count₁))
 
       module _ (counts₂ cells₂ : List ℕ)
           (come : Listed first size counts₁ cells₁ (getD zone v 0)
@@ -245,15 +250,15 @@ module _ (f : List ℕ) (o e : ℕ) (kind first size listed zone place counts ce
         -- every list stands for its zone after the step
         pub marching-held : Held (mr .map) first counts₂ cells₂ marched
         marching-held = rw (← same-state) (step-held (mr .map) (mr .n) (mr .k) kind first size listed zone place (mr .rows) (mr .given) (mr .state) (mr .consistent) counts cells (mr .room) (mr .many) (mr .held) r u v behind list taken
-            cells₁ counts₁ cells₂ counts₂ change₁ count₁ change₂ count₂)
+            cells₁ counts₁ change₁ count₁ cells₂ counts₂ change₂ count₂)
 
         pub marching-many : length counts₂ ≡ 64
         marching-many = step-many (mr .map) (mr .n) (mr .k) kind first size listed zone place (mr .rows) (mr .given) (mr .state) (mr .consistent) counts cells (mr .room) (mr .many) (mr .held) r u v behind list taken
-            cells₁ counts₁ cells₂ counts₂ change₁ count₁ change₂ count₂
+            cells₁ counts₁ change₁ count₁ cells₂ counts₂ change₂ count₂
 
         pub marching-long : length cells₂ ≡ length listed
         marching-long = step-room (mr .map) (mr .n) (mr .k) kind first size listed zone place (mr .rows) (mr .given) (mr .state) (mr .consistent) counts cells (mr .room) (mr .many) (mr .held) r u v behind list taken
-            cells₁ counts₁ cells₂ counts₂ change₁ count₁ change₂ count₂
+            cells₁ counts₁ change₁ count₁ cells₂ counts₂ change₂ count₂
 
 -- the lists after a step that passed stand for the state after it
 pub record Marched (f : List ℕ) (o e : ℕ) (kind first size listed zone place counts cells : List ℕ) (x : Marching f o e kind first size listed zone place counts cells) (counts′ new : List ℕ) : Type 0 where

@@ -2,29 +2,34 @@
 use mathlib.Core.Path.{_≡_, refl, sym, ap, ap₂, _∙_}
 use mathlib.Core.Bool.{Bool, true, false, not}
 use mathlib.Core.List.{List}
-use Prim.Native.Nat.{ℕ, zero, suc, _+_, _-_, _*_, _/_, _≤_, _<_}
+use Prim.Native.Nat.{ℕ, suc, _+_, _-_, _≤_, _<_}
 use native.Mathlib.Omega.{arith}
-use lib.ListN.{length, getD, set, take, drop}
-use lib.Seq.{length-take-le}
-use lib.Dec.{T, eqb, ltb}
-use native.Mathlib.Decide.{decLt}
-use Rattle.judge.specs.Zone.{LeaveFound}
-use borrow.Author.Tests.{eq-eqb, ne-eqb, lt-ltb, le-ltb}
-use Rattle.spec.specs.Outcome.{indexOf, _&&_}
+use lib.ListN.{length, getD, take}
+use lib.Dec.{eqb}
+use native.Mathlib.Decide.{ℕ-discrete}
+use borrow.Author.Tests.{eq-eqb, ne-eqb}
+use Rattle.spec.specs.Outcome.{ok, indexOf, _&&_}
 use Rattle.spec.specs.Layout.{Map, zoneOf, zoneAt}
-use Rattle.spec.specs.Arrangement.{Arrangement, full, lastFree}
+use Rattle.spec.specs.Arrangement.{Arrangement, full}
 use Rattle.spec.specs.ZoneKind.{canLeave, canEnter}
-use Rattle.spec.specs.State.{State, movedAll, arrangementOf}
-use Rattle.spec.specs.Terms.{zoneCount, kindOf, sizeOf, placeOf, arrangementIn}
-use Rattle.theory.specs.Maps.Layout.{Accepted}
+use Rattle.spec.specs.State.{State, arrangementOf}
+use Rattle.spec.specs.Terms.{zoneCount}
 use Rattle.theory.specs.Maps.Cells.{arrangement-length}
 use Rattle.theory.specs.Maps.Consistent.{Consistent}
 use Rattle.theory.specs.Zones.Crossing.{Proper, extraOf}
 use Rattle.theory.specs.Plans.Step.{proper}
-use Rattle.orders.specs.Orders.{Holds, leaveTest, enterTest, without, entered}
+use Rattle.orders.specs.Orders.{Holds, leaveTest, enterTest}
 use Rattle.orders.specs.Tests.{full-is, last-is, leave-is, enter-is}
 use Rattle.zones.specs.Tables as zones
 use Rattle.resolve.specs.Given.{Given, kindAt, verticesAt, zone-is, kind-is, vertices-is, place-is}
+use Rattle.wire.specs.Payload.{payload, FourAt}
+use Rattle.wire.specs.declared.Four.{Four}
+use Rattle.resolve.specs.declared.StepTest.{StepTest}
+use Rattle.resolve.specs.declared.StepTest.the-variants as step
+use Rattle.resolve.specs.Tests.{testOf, entryTests, stepTests}
+use Rattle.judge.specs.declared.Entry.{Entry}
+use Rattle.judge.specs.declared.Tested.{Tested}
+use Rattle.judge.specs.Entering.{entryOn}
 use Rattle.judge.specs.Held.{listIn, Held, size-is, part-fits, list-length}
 
 -- the lists of an accepted map's zones in a state of its robots
@@ -164,12 +169,72 @@ module _ (kind : ℕ) (l : List ℕ) (b : Arrangement) (p : Proper b) (h : Holds
   enters-by r j behind list x q y =
       sym (enter-is kind l b p h r j behind list (rw e x) (rw (not-full q) tt) (y ∙ extra-is) ∙ ap (λ (z : ℕ). enterTest kind z l r j behind list) e)
 
--- ---- what the code reads
+-- no bytes: no clique is filled
+pub extra-zero : (kind size n e : ℕ) → e ≡ extraOn kind size n → e ≡ 0 → n < size → kind ≡ 3 → suc n ≡ size → ⊥
+extra-zero kind size n e q z h k l = omega (arith, extra-filled kind size n k l)
 
--- whether a leaver was found
-pub found-test : (test : Bool) (r n : ℕ) (l : List ℕ) (q : ℕ) → LeaveFound test r n l q → ltb q n ≡ test
-found-test test r n l q f = pick (decLt q n)
+-- some: one is, with a byte for each place
+pub extra-some : (kind size n e : ℕ) → e ≡ extraOn kind size n → (e ≡ 0 → ⊥) → (kind ≡ 3) × (suc n ≡ size) × (e ≡ size)
+extra-some kind size n e q z = go (ℕ-discrete kind 3) (ℕ-discrete (suc n) size)
   where
-    pick : Dec (q < n) → ltb q n ≡ test
-    pick (yes h) = lt-ltb q n h ∙ sym (f .met h)
-    pick (no h) = le-ltb q n (omega arith) ∙ sym (f .unmet (omega arith))
+    go : Dec (kind ≡ 3) → Dec (suc n ≡ size) → (kind ≡ 3) × (suc n ≡ size) × (e ≡ size)
+    go (yes k) (yes l) = (k, l, q ∙ sym (extra-filled kind size n k l))
+    go (yes k) (no l) = absurd (z (q ∙ sym (extra-free kind size n l)))
+    go (no k) l = absurd (z (q ∙ sym (extra-other kind size n k)))
+
+-- ---- what the code finds
+
+-- the entry of robot r at place j of a zone with the n robots l
+pub record EntryTested (f : List ℕ) (len o kind n : ℕ) (l : List ℕ) (size r j behind : ℕ) (q : Entry) : Type 0 where
+  pub tests : (b : Arrangement) → Proper b → Holds kind l b → length b ≡ size → (i : ℕ) → testOf i (q .test) ≡ entryTests kind b (take len (payload f)) i o r j behind
+  pub index : (e : ℕ) → q .test ≡ step.Passed e → e ≡ 0 → (q .into ≤ n) × (q .into ≡ entryOn kind behind l)
+
+-- the bytes b of the step at offset o, with a follow list of e bytes; its robot stands at index x of the list that it leaves, and comes in at index y of the other
+pub record Chosen (f : List ℕ) (o e : ℕ) (kind first zone counts cells : List ℕ) (b : Four) (x y : ℕ) : Type 0 where
+  pub read : FourAt f o b
+  pub stood : x ≡ indexOf (b .first) (listIn first counts cells (getD zone (b .second) 0))
+  pub comes : e ≡ 0 → (y ≤ getD counts (getD zone (b .third) 0) 0) × (y ≡ entryOn (kindAt kind zone (b .third)) (b .fourth) (listIn first counts cells (getD zone (b .third) 0)))
+
+-- the step at offset o
+pub record StepTested (f : List ℕ) (len o n k : ℕ) (kind first size listed zone place : List ℕ) (rows : List (List ℕ)) (counts cells : List ℕ) (t : Tested) : Type 0 where
+  pub tests : (m : Map) → Given m n k kind first size listed zone place rows → (s : State) → Consistent m k s → Held m first counts cells s
+      → (i : ℕ) → testOf i (t .test) ≡ stepTests m k (take len (payload f)) i o s
+  pub chosen : (e : ℕ) → t .test ≡ step.Passed e → Chosen f o e kind first zone counts cells (t .bytes) (t .out) (t .into)
+
+-- 0 for a refusal; one more than the bytes of the follow list for a step that passed
+abbrev pub passedBy : StepTest → ℕ
+passedBy (step.Passed e) = suc e
+passedBy step.Short = 0
+passedBy step.Number = 0
+passedBy step.Edge = 0
+passedBy step.Leave = 0
+passedBy step.Enter = 0
+
+module _ {f : List ℕ} {len o kind n : ℕ} {l : List ℕ} {size r j behind : ℕ} {q : Entry} where
+  -- an entry that is refused
+  pub entry-refused : {t : StepTest} → q .test ≡ t → passedBy t ≡ 0
+      → ((b : Arrangement) → Proper b → Holds kind l b → length b ≡ size → (i : ℕ) → testOf i t ≡ entryTests kind b (take len (payload f)) i o r j behind)
+      → EntryTested f len o kind n l size r j behind q
+  entry-refused e z k = record {
+    tests = λ b p h x i. ap (testOf i) e ∙ k b p h x i;
+    index = λ x y w. absurd (omega (arith, sym z ∙ ap passedBy (sym e ∙ y)));
+  }
+
+  -- one that fills a clique
+  pub entry-filled : {e : ℕ} → q .test ≡ step.Passed e → (e ≡ 0 → ⊥)
+      → ((b : Arrangement) → Proper b → Holds kind l b → length b ≡ size → (i : ℕ) → ok e ≡ entryTests kind b (take len (payload f)) i o r j behind)
+      → EntryTested f len o kind n l size r j behind q
+  entry-filled {e} d z k = record {
+    tests = λ b p h x i. ap (testOf i) d ∙ k b p h x i;
+    index = λ x y w. absurd (z (omega (arith, ap passedBy (sym d ∙ y))));
+  }
+
+-- a step that is refused
+pub step-refused : {f : List ℕ} {len o n k : ℕ} {kind first size listed zone place : List ℕ} {rows : List (List ℕ)} {counts cells : List ℕ} {q : Tested} {t : StepTest}
+    → q .test ≡ t → passedBy t ≡ 0
+    → ((m : Map) → Given m n k kind first size listed zone place rows → (s : State) → Consistent m k s → Held m first counts cells s → (i : ℕ) → testOf i t ≡ stepTests m k (take len (payload f)) i o s)
+    → StepTested f len o n k kind first size listed zone place rows counts cells q
+step-refused e z g = record {
+  tests = λ m d s hc x i. ap (testOf i) e ∙ g m d s hc x i;
+  chosen = λ x y. absurd (omega (arith, sym z ∙ ap passedBy (sym e ∙ y)));
+}

@@ -87,7 +87,7 @@ fn ends_zone<'a>(
     let mut robots = [0u8; 128];
     let mut places = [0u8; 128];
     let n = line_up(goals, &listed[a..e], &mut robots, &mut places);
-    crate::zone::can_end(kind[z], &cells[a..], count, m, &mut robots[..n])
+    crate::goals::can_end(kind[z], &cells[a..], count, m, &mut robots[..n])
 }
 
 // The lowest zone that can't be brought to its goals; the number of zones where there is none.

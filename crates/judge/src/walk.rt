@@ -5,31 +5,31 @@ ghost use Prim.Native.Nat.{ℕ, suc, _+_, _*_, _/_, _≤_, _<_};
 ghost use lib.ListN.{length, getD, take, set};
 ghost use Rattle.spec.specs.Outcome.{indexOf};
 ghost use Rattle.spec.specs.Layout.{Map};
-ghost use Rattle.spec.specs.Arrangement.{Arrangement};
 ghost use Rattle.spec.specs.State.{State};
 ghost use Rattle.theory.specs.Maps.Consistent.{Consistent};
-ghost use Rattle.theory.specs.Zones.Crossing.{Proper};
 ghost use Rattle.wire.specs.Payload.{payload};
-ghost use Rattle.orders.specs.Orders.{Holds, leaveTest, enterTest, without, entered};
+ghost use Rattle.orders.specs.Orders.{leaveTest, without, entered};
 ghost use Rattle.resolve.specs.Held.{heldPart};
-ghost use Rattle.resolve.specs.Tests.{testOf, entryTests, stepTests};
 ghost use Rattle.resolve.specs.Given.{Given, kindAt};
+ghost use Rattle.judge.specs.Leaving.{LeaveFound};
+ghost use Rattle.judge.specs.Entering.{entryOn};
 ghost use Rattle.judge.specs.Lists.{Rewritten};
 ghost use Rattle.judge.specs.Held.{listIn, Held};
-ghost use Rattle.judge.specs.Steps.{Ready, HasList, Fits, extraOn};
+ghost use Rattle.judge.specs.Steps.{Ready, HasList, Fits, extraOn, EntryTested, StepTested, Chosen};
 ghost use Rattle.judge.specs.Making.{Marching, Marched, TakesOut, PutsIn, Listed};
 ghost use Rattle.judge.specs.Judging.{JudgedWalk};
+use crate::Entry;
 use crate::JudgedSteps;
-use hall::goals::index_of;
+use crate::Tested;
 use resolve::PlanFault;
 use resolve::StepTest;
 use resolve::tests::are_numbered;
-use resolve::tests::copy_list;
 use resolve::tests::is_crossing;
 use resolve::walk::refusal_of;
+use wire::Four;
 
-// Can robot r leave its zone at vertex u?
-fn can_leave_at<'a>(
+// Where robot r, that is to leave its zone at vertex u, stands in the zone's list; 128 where it can't.
+fn leave_at<'a>(
     kind: &'a [u8; 64],
     first: &'a [u8; 64],
     size: &'a [u8; 64],
@@ -39,17 +39,20 @@ fn can_leave_at<'a>(
     counts: &[u8; 64],
     r: u8,
     u: u8,
-) -> bool
+) -> usize
     requires { ⌜ Fits (now first) (now size) (now zone) (now place) (now counts) (now cells) u ⌝ }
-    ensures { λ b. ⌜ b ≡ leaveTest (kindAt (now (kind .entry)) (now (zone .entry)) u) (getD (now (size .entry)) (getD (now (zone .entry)) u 0) 0) (listIn (now (first .entry)) (now (counts .entry)) (now (cells .entry)) (getD (now (zone .entry)) u 0)) r (getD (now (place .entry)) u 0) ⌝ }
+    ensures { λ q. ⌜ LeaveFound (leaveTest (kindAt (now (kind .entry)) (now (zone .entry)) u) (getD (now (size .entry)) (getD (now (zone .entry)) u 0) 0) (listIn (now (first .entry)) (now (counts .entry)) (now (cells .entry)) (getD (now (zone .entry)) u 0)) r (getD (now (place .entry)) u 0)) r 128 (listIn (now (first .entry)) (now (counts .entry)) (now (cells .entry)) (getD (now (zone .entry)) u 0)) q ⌝ }
 {
     let z = zone[u as usize] as usize;
     let a = first[z] as usize;
     let n = counts[z] as usize;
     let m = size[z] as usize;
     let j = place[u as usize] as usize;
-    let t = crate::zone::leave_index(kind[z], &cells[a..], n, m, r, j);
-    t < n
+    let t = crate::leaving::leave_index(kind[z], &cells[a..], n, m, r, j);
+    if t < n {
+        return t;
+    }
+    128
 }
 
 // How many bytes the follow list has of a step into a zone of `size` places with n robots.
@@ -66,24 +69,11 @@ fn list_length(kind: u8, n: usize, size: usize) -> usize
     0
 }
 
-// Can robot r enter at place j, with the follow list that is copied into the lent bytes?
-fn can_enter_in(
-    file: &[u8],
-    from: usize,
-    kind: u8,
-    part: &[u8],
-    n: usize,
-    size: usize,
-    r: u8,
-    j: usize,
-    behind: u8,
-    list: &mut [u8],
-) -> bool
-    requires { ⌜ (n < size) × (size ≤ length (now part)) × (size ≤ 128) × (j < size) × (length (now list) ≡ extraOn kind size n) × (from + length (now list) ≤ length (now file) / 512 * 504) ⌝ }
-    ensures { λ b. ⌜ ((len : ℕ) → len ≤ length (now (file .entry)) / 512 * 504 → from + length (now (list .entry)) ≤ len → b ≡ enterTest kind size (take n (now (part .entry))) r j behind (heldPart (now (file .entry)) len from (length (now (list .entry))))) ⌝ }
+// The entry of a step that is refused.
+fn no_entry(t: StepTest) -> Entry
+    ensures { λ q. ⌜ q .test ≡ t ⌝ }
 {
-    copy_list(file, from, list);
-    crate::zone::can_enter(kind, part, n, size, r, j, behind, list)
+    Entry { test: t, into: 0 }
 }
 
 // Robot r's entry at place j of a zone of `size` places with the first n of the part inside: "full target, follow list present, 39".
@@ -98,33 +88,31 @@ fn test_entry(
     r: u8,
     j: usize,
     behind: u8,
-) -> StepTest
+) -> Entry
     requires { ⌜ (len ≤ length (now file) / 512 * 504) × (o + 4 ≤ len) × (n ≤ size) × (size ≤ length (now part)) × (size ≤ 128) × (j < size) ⌝ }
-    ensures { λ t. ⌜ ((b : Arrangement) → Proper b → Holds kind (take n (now (part .entry))) b → length b ≡ size → (i : ℕ) → testOf i t ≡ entryTests kind b (take len (payload (now (file .entry)))) i o r j behind) ⌝ }
+    ensures { λ q. ⌜ EntryTested (now (file .entry)) len o kind n (take n (now (part .entry))) size r j behind q ⌝ }
 {
     if n == size {
-        return StepTest::Enter;
+        return no_entry(StepTest::Enter);
     }
     let e = list_length(kind, n, size);
     if len - o - 4 < e {
-        return StepTest::Short;
+        return no_entry(StepTest::Short);
     }
-    let mut list = [0u8; 128];
-    if can_enter_in(
-        file,
-        o + 4,
-        kind,
-        part,
-        n,
-        size,
-        r,
-        j,
-        behind,
-        &mut list[..e],
-    ) {
-        return StepTest::Passed(e);
+    if e == 0 {
+        let t = crate::entering::entry_at(kind, part, n, size, j, behind);
+        if n < t {
+            return no_entry(StepTest::Enter);
+        }
+        return Entry {
+            test: StepTest::Passed(0),
+            into: t,
+        };
     }
-    StepTest::Enter
+    if crate::entering::can_fill(file, o + 4, part, n, size, r, j, behind) {
+        return no_entry(StepTest::Passed(e));
+    }
+    no_entry(StepTest::Enter)
 }
 
 // Robot r's entry at vertex v.
@@ -142,10 +130,10 @@ fn test_entry_at<'a>(
     r: u8,
     v: u8,
     behind: u8,
-) -> StepTest
+) -> Entry
     requires { ⌜ (len ≤ length (now file) / 512 * 504) × (o + 4 ≤ len) ⌝ }
     requires { ⌜ Fits (now first) (now size) (now zone) (now place) (now counts) (now cells) v ⌝ }
-    ensures { λ t. ⌜ ((b : Arrangement) → Proper b → Holds (kindAt (now (kind .entry)) (now (zone .entry)) v) (listIn (now (first .entry)) (now (counts .entry)) (now (cells .entry)) (getD (now (zone .entry)) v 0)) b → length b ≡ getD (now (size .entry)) (getD (now (zone .entry)) v 0) 0 → (i : ℕ) → testOf i t ≡ entryTests (kindAt (now (kind .entry)) (now (zone .entry)) v) b (take len (payload (now (file .entry)))) i o r (getD (now (place .entry)) v 0) behind) ⌝ }
+    ensures { λ q. ⌜ EntryTested (now (file .entry)) len o (kindAt (now (kind .entry)) (now (zone .entry)) v) (getD (now (counts .entry)) (getD (now (zone .entry)) v 0) 0) (listIn (now (first .entry)) (now (counts .entry)) (now (cells .entry)) (getD (now (zone .entry)) v 0)) (getD (now (size .entry)) (getD (now (zone .entry)) v 0) 0) r (getD (now (place .entry)) v 0) behind q ⌝ }
 {
     let z = zone[v as usize] as usize;
     let a = first[z] as usize;
@@ -153,6 +141,24 @@ fn test_entry_at<'a>(
     let m = size[z] as usize;
     let j = place[v as usize] as usize;
     test_entry(file, len, o, kind[z], &cells[a..], n, m, r, j, behind)
+}
+
+// A step that is refused.
+fn refused(t: StepTest) -> Tested
+    ensures { λ q. ⌜ q .test ≡ t ⌝ }
+{
+    let bytes = Four {
+        first: 0,
+        second: 0,
+        third: 0,
+        fourth: 0,
+    };
+    Tested {
+        test: t,
+        bytes: bytes,
+        out: 0,
+        into: 0,
+    }
 }
 
 // The tests of the step at offset o of the payload, for k robots on a map of n vertices.
@@ -171,28 +177,29 @@ pub fn test_step<'a>(
     k: usize,
     cells: &[u8],
     counts: &[u8; 64],
-) -> StepTest
+) -> Tested
     requires { ⌜ (len ≤ length (now file) / 512 * 504) × (o ≤ len) ⌝ }
     requires { ⌜ Ready n k (now kind) (now first) (now size) (now listed) (now zone) (now place) (now rows) (now counts) (now cells) ⌝ }
-    ensures { λ t. ⌜ ((m : Map) → Given m n k (now (kind .entry)) (now (first .entry)) (now (size .entry)) (now (listed .entry)) (now (zone .entry)) (now (place .entry)) (now (rows .entry)) → (s : State) → Consistent m k s → Held m (now (first .entry)) (now (counts .entry)) (now (cells .entry)) s → (i : ℕ) → testOf i t ≡ stepTests m k (take len (payload (now (file .entry)))) i o s) ⌝ }
+    ensures { λ t. ⌜ StepTested (now (file .entry)) len o n k (now (kind .entry)) (now (first .entry)) (now (size .entry)) (now (listed .entry)) (now (zone .entry)) (now (place .entry)) (now (rows .entry)) (now (counts .entry)) (now (cells .entry)) t ⌝ }
 {
     if len - o < 4 {
-        return StepTest::Short;
+        return refused(StepTest::Short);
     }
-    let r = wire::payload_byte(file, o);
-    let u = wire::payload_byte(file, o + 1);
-    let v = wire::payload_byte(file, o + 2);
-    let behind = wire::payload_byte(file, o + 3);
+    let b = wire::payload_four(file, o);
+    let r = b.first;
+    let u = b.second;
+    let v = b.third;
     if !are_numbered(n, k, r, u, v) {
-        return StepTest::Number;
+        return refused(StepTest::Number);
     }
     if !is_crossing(zone, rows, u, v) {
-        return StepTest::Edge;
+        return refused(StepTest::Edge);
     }
-    if !can_leave_at(kind, first, size, zone, place, cells, counts, r, u) {
-        return StepTest::Leave;
+    let t = leave_at(kind, first, size, zone, place, cells, counts, r, u);
+    if 128 <= t {
+        return refused(StepTest::Leave);
     }
-    test_entry_at(
+    let e = test_entry_at(
         file,
         len,
         o,
@@ -205,11 +212,18 @@ pub fn test_step<'a>(
         counts,
         r,
         v,
-        behind,
-    )
+        b.fourth,
+    );
+    let test = e.test;
+    Tested {
+        test: test,
+        bytes: b,
+        out: t,
+        into: e.into,
+    }
 }
 
-// Takes robot r out of the list of vertex u's zone.
+// Takes the robot at index t out of the list of vertex u's zone.
 fn take_out<'a>(
     first: &'a [u8; 64],
     size: &'a [u8; 64],
@@ -217,38 +231,40 @@ fn take_out<'a>(
     place: &'a [u8; 128],
     cells: &mut [u8],
     counts: &mut [u8; 64],
-    r: u8,
     u: u8,
+    t: usize,
 )
-    requires { ⌜ TakesOut (now first) (now size) (now zone) (now place) (now counts) (now cells) r u ⌝ }
-    ensures { λ q. ⌜ Listed (now (first .entry)) (now (size .entry)) (now (counts .entry)) (now (cells .entry)) (getD (now (zone .entry)) u 0) (without (indexOf r (listIn (now (first .entry)) (now (counts .entry)) (now (cells .entry)) (getD (now (zone .entry)) u 0))) (listIn (now (first .entry)) (now (counts .entry)) (now (cells .entry)) (getD (now (zone .entry)) u 0))) (now (counts .exit)) (now (cells .exit)) ⌝ }
+    requires { ⌜ TakesOut (now first) (now size) (now zone) (now place) (now counts) (now cells) u t ⌝ }
+    ensures { λ q. ⌜ Listed (now (first .entry)) (now (size .entry)) (now (counts .entry)) (now (cells .entry)) (getD (now (zone .entry)) u 0) (without t (listIn (now (first .entry)) (now (counts .entry)) (now (cells .entry)) (getD (now (zone .entry)) u 0))) (now (counts .exit)) (now (cells .exit)) ⌝ }
 {
     let z = zone[u as usize] as usize;
     let a = first[z] as usize;
     let n = counts[z] as usize;
-    let t = index_of(&cells[a..], n, r);
     crate::lists::remove(&mut cells[a..], n, t);
     counts[z] = (n - 1) as u8;
 }
 
-// Puts robot r into a zone's list, with the follow list that is copied into the lent bytes.
+// Puts robot r into a zone's list, at index t or as the follow list says, which has e bytes.
 fn enter_in(
     file: &[u8],
     from: usize,
+    e: usize,
     kind: u8,
     part: &mut [u8],
     n: usize,
     size: usize,
+    t: usize,
     r: u8,
     j: usize,
-    behind: u8,
-    list: &mut [u8],
 )
-    requires { ⌜ (n < size) × (size ≤ length (now part)) × (size ≤ 128) × (j < size) × (length (now list) ≡ extraOn kind size n) × (from + length (now list) ≤ length (now file) / 512 * 504) ⌝ }
-    ensures { λ q. ⌜ Rewritten (now (part .entry)) size (entered kind size (take n (now (part .entry))) r j behind (heldPart (now (file .entry)) (from + length (now (list .entry))) from (length (now (list .entry))))) (now (part .exit)) ⌝ }
+    requires { ⌜ (n < size) × (size ≤ length (now part)) × (size ≤ 128) × (j < size) × (e ≡ extraOn kind size n) × (from + e ≤ length (now file) / 512 * 504) × (e ≡ 0 → t ≤ n) ⌝ }
+    ensures { λ q. ⌜ ((behind : ℕ) → (e ≡ 0 → t ≡ entryOn kind behind (take n (now (part .entry)))) → Rewritten (now (part .entry)) size (entered kind size (take n (now (part .entry))) r j behind (heldPart (now (file .entry)) (from + e) from e)) (now (part .exit))) ⌝ }
 {
-    copy_list(file, from, list);
-    crate::zone::enter(kind, part, n, size, r, j, behind, list);
+    if e == 0 {
+        crate::entering::enter_at(kind, part, n, size, t, r, j);
+    } else {
+        crate::entering::fill_clique(file, from, part, size);
+    }
 }
 
 // Puts robot r into the list of vertex v's zone, by a step whose follow list has e bytes.
@@ -265,34 +281,22 @@ fn put_in<'a>(
     counts: &mut [u8; 64],
     r: u8,
     v: u8,
-    behind: u8,
+    t: usize,
 )
     requires { ⌜ from + e ≤ length (now file) / 512 * 504 ⌝ }
-    requires { ⌜ PutsIn (now kind) (now first) (now size) (now zone) (now place) (now counts) (now cells) e v ⌝ }
-    ensures { λ q. ⌜ Listed (now (first .entry)) (now (size .entry)) (now (counts .entry)) (now (cells .entry)) (getD (now (zone .entry)) v 0) (entered (kindAt (now (kind .entry)) (now (zone .entry)) v) (getD (now (size .entry)) (getD (now (zone .entry)) v 0) 0) (listIn (now (first .entry)) (now (counts .entry)) (now (cells .entry)) (getD (now (zone .entry)) v 0)) r (getD (now (place .entry)) v 0) behind (heldPart (now (file .entry)) (from + e) from e)) (now (counts .exit)) (now (cells .exit)) ⌝ }
+    requires { ⌜ PutsIn (now kind) (now first) (now size) (now zone) (now place) (now counts) (now cells) e v t ⌝ }
+    ensures { λ q. ⌜ ((behind : ℕ) → (e ≡ 0 → t ≡ entryOn (kindAt (now (kind .entry)) (now (zone .entry)) v) behind (listIn (now (first .entry)) (now (counts .entry)) (now (cells .entry)) (getD (now (zone .entry)) v 0))) → Listed (now (first .entry)) (now (size .entry)) (now (counts .entry)) (now (cells .entry)) (getD (now (zone .entry)) v 0) (entered (kindAt (now (kind .entry)) (now (zone .entry)) v) (getD (now (size .entry)) (getD (now (zone .entry)) v 0) 0) (listIn (now (first .entry)) (now (counts .entry)) (now (cells .entry)) (getD (now (zone .entry)) v 0)) r (getD (now (place .entry)) v 0) behind (heldPart (now (file .entry)) (from + e) from e)) (now (counts .exit)) (now (cells .exit))) ⌝ }
 {
     let z = zone[v as usize] as usize;
     let a = first[z] as usize;
     let n = counts[z] as usize;
     let m = size[z] as usize;
     let j = place[v as usize] as usize;
-    let mut list = [0u8; 128];
-    enter_in(
-        file,
-        from,
-        kind[z],
-        &mut cells[a..],
-        n,
-        m,
-        r,
-        j,
-        behind,
-        &mut list[..e],
-    );
+    enter_in(file, from, e, kind[z], &mut cells[a..], n, m, t, r, j);
     counts[z] = (n + 1) as u8;
 }
 
-// The step at offset o, which passed its tests, with a follow list of e bytes: its robot crosses.
+// The step at offset o, which passed its tests, with a follow list of e bytes: its robot crosses, from index `out` of one list to index `into` of the other.
 fn make_step<'a>(
     file: &[u8],
     o: usize,
@@ -305,15 +309,18 @@ fn make_step<'a>(
     place: &'a [u8; 128],
     cells: &mut [u8],
     counts: &mut [u8; 64],
+    bytes: Four,
+    out: usize,
+    into: usize,
 )
     requires { ⌜ Marching (now file) o e (now kind) (now first) (now size) (now listed) (now zone) (now place) (now counts) (now cells) ⌝ }
+    requires { ⌜ Chosen (now file) o e (now kind) (now first) (now zone) (now counts) (now cells) bytes out into ⌝ }
     ensures { λ q. ⌜ ((x : Marching (now (file .entry)) o e (now (kind .entry)) (now (first .entry)) (now (size .entry)) (now (listed .entry)) (now (zone .entry)) (now (place .entry)) (now (counts .entry)) (now (cells .entry))) → Marched (now (file .entry)) o e (now (kind .entry)) (now (first .entry)) (now (size .entry)) (now (listed .entry)) (now (zone .entry)) (now (place .entry)) (now (counts .entry)) (now (cells .entry)) x (now (counts .exit)) (now (cells .exit))) ⌝ }
 {
-    let r = wire::payload_byte(file, o);
-    let u = wire::payload_byte(file, o + 1);
-    let v = wire::payload_byte(file, o + 2);
-    let behind = wire::payload_byte(file, o + 3);
-    take_out(first, size, zone, place, cells, counts, r, u);
+    let r = bytes.first;
+    let u = bytes.second;
+    let v = bytes.third;
+    take_out(first, size, zone, place, cells, counts, u, out);
     put_in(
         file,
         o + 4,
@@ -327,7 +334,7 @@ fn make_step<'a>(
         counts,
         r,
         v,
-        behind,
+        into,
     );
 }
 
@@ -355,7 +362,7 @@ pub fn walk<'a>(
     let mut o: usize = 2;
     let mut i: usize = 0;
     while i < count {
-        let t = test_step(
+        let x = test_step(
             file,
             len,
             o,
@@ -371,9 +378,11 @@ pub fn walk<'a>(
             cells,
             counts,
         );
+        let t = x.test;
         match t {
             StepTest::Passed(e) => {
                 let next = o + 4 + e;
+                let bytes = x.bytes;
                 make_step(
                     file,
                     o,
@@ -386,6 +395,9 @@ pub fn walk<'a>(
                     place,
                     cells,
                     counts,
+                    bytes,
+                    x.out,
+                    x.into,
                 );
                 o = next;
                 i += 1;

@@ -1,36 +1,22 @@
 -- Parts of a payload that stands in a file, copied.
-use mathlib.Core.Path.{_≡_, sym, ap, _∙_}
+use mathlib.Core.Path.{_≡_, sym, _∙_}
 use mathlib.Core.Bool.{Bool, true, false}
 use mathlib.Core.List.{List}
-use Prim.Native.Nat.{ℕ, _+_, _-_, _*_, _/_, _≤_, _<_}
+use Prim.Native.Nat.{ℕ, _+_, _-_, _*_, _/_, _≤_}
 use native.Mathlib.Omega.{arith}
-use native.Mathlib.Decide.{ℕ-discrete}
-use lib.ListN.{length, getD, set, take, drop, length-drop}
-use lib.Seq.{length-take-le, getD-take, getD-drop, ext-getD, getD-set-same, getD-set-other}
+use lib.ListN.{length, take, drop, length-drop}
+use lib.Seq.{length-take-le, getD-take, getD-drop, ext-getD}
 use lib.Dec.{eqb}
 use Rattle.spec.specs.Outcome.{_&&_}
 use Rattle.spec.specs.Arrangement.{lastFree}
 use Rattle.spec.specs.State.{State, arrangementOf}
 use Rattle.theory.specs.Zones.Crossing.{extraOf}
 use Rattle.motion.specs.Across.{arrangement-length}
-use Rattle.wire.specs.Payload.{payload, placeOf, held-length, held-byte}
+use Rattle.wire.specs.Payload.{payload, Copied, held-length, held-byte}
 
 -- n bytes from offset `from` on, of a payload of len bytes
 abbrev pub heldPart : List ℕ → ℕ → ℕ → ℕ → List ℕ
 heldPart f len from n = take n (drop from (take len (payload f)))
-
--- the first i bytes of the list are those of the file
-abbrev pub Copied : List ℕ → ℕ → List ℕ → ℕ → Type 0
-Copied f from list i = (j : ℕ) → j < i → getD list j 0 ≡ getD f (placeOf (from + j)) 0
-
--- one byte more
-pub copied-more : (f : List ℕ) (from : ℕ) (list new : List ℕ) (i b : ℕ) → i < length list → b ≡ getD f (placeOf (from + i)) 0 → new ≡ set list i b
-    → Copied f from list i → Copied f from new (i + 1)
-copied-more f from list new i b h e d c j l = pick (ℕ-discrete j i)
-  where
-    pick : Dec (j ≡ i) → getD new j 0 ≡ getD f (placeOf (from + j)) 0
-    pick (yes q) = ap (λ (x : List ℕ). getD x j 0) d ∙ rw q (getD-set-same list i b 0 h ∙ e)
-    pick (no q) = ap (λ (x : List ℕ). getD x j 0) d ∙ getD-set-other list i j b 0 q ∙ c j (omega arith)
 
 -- all bytes
 pub copied-all : (f : List ℕ) (len from : ℕ) (list : List ℕ) (n i : ℕ) → len ≤ length f / 512 * 504 → from + n ≤ len → length list ≡ n → n ≤ i → Copied f from list i

@@ -73,11 +73,7 @@ pub fn copy_list(file: &[u8], from: usize, list: &mut [u8])
     requires { ⌜ from + length (now list) ≤ length (now file) / 512 * 504 ⌝ }
     ensures { λ q. ⌜ ((len : ℕ) → len ≤ length (now (file .entry)) / 512 * 504 → from + length (now (list .entry)) ≤ len → now (list .exit) ≡ heldPart (now (file .entry)) len from (length (now (list .entry)))) ⌝ }
 {
-    let mut i: usize = 0;
-    while i < list.len() {
-        list[i] = wire::payload_byte(file, from + i);
-        i += 1;
-    }
+    wire::payload_part(file, from, list);
 }
 
 // Can robot r enter at place j, with the follow list that is copied into the lent bytes?

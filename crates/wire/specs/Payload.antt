@@ -4,15 +4,18 @@ use mathlib.Core.Path.{_≡_, refl, ap, sym, _∙_}
 use mathlib.Core.Logic.{_⊎_, inl, inr, ⊎-elim}
 use mathlib.Core.Bool.{Bool, true, false}
 use mathlib.Core.List.{List, [], _++_}
-use lib.ListN.{length, getD, take, drop, length-append, length-drop, List·getD-append, List·getD-eq-default}
-use lib.Seq.{getD-drop, getD-take, getD-append-add, length-take-le, ext-getD}
+use lib.ListN.{length, getD, set, take, drop, length-append, length-drop, List·getD-append, List·getD-eq-default}
+use lib.Seq.{getD-drop, getD-take, getD-append-add, getD-set-same, getD-set-other, length-take-le, ext-getD}
 use lib.Dec.{ltb, lit<}
 use borrow.Author.Tests.{ltb-true, ltb-false}
+use borrow.Rule.Slice.PartMut.{putMid}
 use native.Mathlib.Numerals.{add-one}
 use native.Mathlib.Omega.{arith}
+use native.Mathlib.Decide.{ℕ-discrete}
 use Rattle.spec.specs.Wire.{word}
 use Rattle.spec.specs.Terms.{Bytes}
 use Rattle.wire.specs.declared.Three.{Three}
+use Rattle.wire.specs.declared.Four.{Four}
 
 -- the payload parts of the first k blocks
 unfoldable pub parts : List ℕ → ℕ → List ℕ
@@ -60,6 +63,84 @@ lt-or-ge a b = go (ltb a b) refl
     go : (t : Bool) → ltb a b ≡ t → (a < b) ⊎ (b ≤ a)
     go true e = inl (ltb-true a b e)
     go false e = inr (ltb-false a b e)
+
+-- the four bytes from `off` of the payload on
+pub record FourAt (f : List ℕ) (off : ℕ) (t : Four) : Type 0 where
+  pub first : t .first ≡ getD f (placeOf off) 0
+  pub second : t .second ≡ getD f (placeOf (off + 1)) 0
+  pub third : t .third ≡ getD f (placeOf (off + 2)) 0
+  pub fourth : t .fourth ≡ getD f (placeOf (off + 3)) 0
+
+-- k bytes on in the same block
+block-same : (off k : ℕ) → off % 504 + k < 504 → (off + k) / 504 ≡ off / 504
+block-same off k h = omega arith
+
+pub place-rest : (off : ℕ) → placeOf off % 512 ≡ 6 + off % 504
+place-rest off = omega arith
+
+place-near : (off k p : ℕ) → p ≡ placeOf off → p % 512 + k < 510 → p + k ≡ placeOf (off + k)
+place-near off k p e h = go (omega (arith, ap (λ (x : ℕ). x % 512) e ∙ place-rest off))
+  where
+    go : off % 504 + k < 504 → p + k ≡ placeOf (off + k)
+    go l = e-add (block-same off k l)
+      where
+        e-add : (off + k) / 504 ≡ off / 504 → p + k ≡ placeOf (off + k)
+        e-add d = omega arith
+
+-- a byte of the payload stands in the file
+place-within : (l off : ℕ) → off < l / 512 * 504 → placeOf off < l
+place-within l off h = omega arith
+
+-- so do e - i of them that stand in one block from p on
+pub part-within : (l from i e p : ℕ) → p ≡ placeOf (from + i) → i < e → p % 512 + (e - i) ≤ 510 → from + e ≤ l / 512 * 504 → p + (e - i) ≤ l
+part-within l from i e p g h b m =
+    let k : ℕ = e - i - 1 in
+    let n : p + k ≡ placeOf (from + i + k) = place-near (from + i) k p g (omega arith) in
+    let w : placeOf (from + i + k) < l = place-within l (from + i + k) (omega arith) in
+    last k (omega arith) n w
+  where
+    last : (k : ℕ) → e - i ≡ k + 1 → p + k ≡ placeOf (from + i + k) → placeOf (from + i + k) < l → p + (e - i) ≤ l
+    last k d n w = let v : p + k < l = rw n w in omega arith
+
+-- they stand in one block
+pub four-near : (f : List ℕ) (off p a b c d : ℕ) → p ≡ placeOf off → p % 512 < 507
+    → a ≡ getD f p 0 → b ≡ getD f (p + 1) 0 → c ≡ getD f (p + 2) 0 → d ≡ getD f (p + 3) 0 → FourAt f off (record { first = a; second = b; third = c; fourth = d })
+four-near f off p a b c d e h w x y z = record {
+  first = w ∙ ap (λ (k : ℕ). getD f k 0) e;
+  second = x ∙ ap (λ (k : ℕ). getD f k 0) (place-near off 1 p e (omega arith));
+  third = y ∙ ap (λ (k : ℕ). getD f k 0) (place-near off 2 p e (omega arith));
+  fourth = z ∙ ap (λ (k : ℕ). getD f k 0) (place-near off 3 p e (omega arith));
+}
+
+-- one more of a list's elements is the same as another's
+pub same-more : (l m : List ℕ) (i x : ℕ) → i < length m → x ≡ getD l i 0 → ((j : ℕ) → j < i → getD m j 0 ≡ getD l j 0) → (j : ℕ) → j < i + 1 → getD (set m i x) j 0 ≡ getD l j 0
+same-more l m i x h e s j b = pick (ℕ-discrete j i)
+  where
+    pick : Dec (j ≡ i) → getD (set m i x) j 0 ≡ getD l j 0
+    pick (yes q) = rw q (getD-set-same m i x 0 h ∙ e)
+    pick (no q) = getD-set-other m i j x 0 q ∙ s j (omega arith)
+
+-- the first i bytes of a list are those of the payload from `from` on
+abbrev pub Copied : List ℕ → ℕ → List ℕ → ℕ → Type 0
+Copied f from list i = (j : ℕ) → j < i → getD list j 0 ≡ getD f (placeOf (from + j)) 0
+
+-- with those as far as element e, which stand in one block from p on
+pub copied-part : (f : List ℕ) (from : ℕ) (list new : List ℕ) (i e p : ℕ) → i ≤ e → e ≤ length list → p ≡ placeOf (from + i) → p % 512 + (e - i) ≤ 510
+    → new ≡ take (e - i) (drop p f) → length new ≡ e - i → Copied f from list i → Copied f from (putMid i (e - i) list new) e
+copied-part f from list new i e p h l g b d n c j x = pick (lt-or-ge j i)
+  where
+    front : length (take i list) ≡ i
+    front = length-take-le i list (omega arith)
+
+    pick : (j < i) ⊎ (i ≤ j) → getD (putMid i (e - i) list new) j 0 ≡ getD f (placeOf (from + j)) 0
+    pick (inl q) = List·getD-append (take i list) _ 0 j (omega (arith, front)) ∙ getD-take i list j 0 q ∙ c j q
+    pick (inr q) =
+        let k : j ≡ length (take i list) + (j - i) = omega (arith, front) in
+        let t : from + i + (j - i) ≡ from + j = omega arith in
+        let s : p + (j - i) ≡ placeOf (from + j) = place-near (from + i) (j - i) p g (omega arith) ∙ ap placeOf t in
+        ap (λ (y : ℕ). getD (putMid i (e - i) list new) y 0) k ∙ getD-append-add (take i list) _ (j - i) 0
+        ∙ List·getD-append new _ 0 (j - i) (omega arith)
+        ∙ ap (λ (y : List ℕ). getD y (j - i) 0) d ∙ getD-take (e - i) (drop p f) (j - i) 0 (omega arith) ∙ getD-drop p f (j - i) 0 ∙ ap (λ (y : ℕ). getD f y 0) s
 
 -- k parts are 504 bytes each
 pub parts-length : (f : List ℕ) (k : ℕ) → k * 512 ≤ length f → length (parts f k) ≡ k * 504

@@ -21,6 +21,8 @@ pub use check::check_file;
 pub use payload::byte_at;
 pub use payload::next_place;
 pub use payload::payload_byte;
+pub use payload::payload_four;
+pub use payload::payload_part;
 pub use payload::payload_word;
 pub use payload::place_after;
 pub use payload::three_from;
@@ -45,4 +47,12 @@ pub struct Three {
     pub first: u8,
     pub second: u8,
     pub third: u8,
+}
+
+// Four bytes of a payload that stand one after the other, as those of a step.
+pub struct Four {
+    pub first: u8,
+    pub second: u8,
+    pub third: u8,
+    pub fourth: u8,
 }

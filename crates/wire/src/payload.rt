@@ -1,8 +1,9 @@
 // A payload read where it stands in the file: 504 bytes of each block, after its head.
 ghost use mathlib.Core.Path.{_≡_};
-ghost use Prim.Native.Nat.{ℕ, _+_, _<_, _≤_};
-ghost use lib.ListN.{getD};
-ghost use Rattle.wire.specs.Payload.{placeOf, wordAt, ThreeAt};
+ghost use Prim.Native.Nat.{ℕ, _+_, _-_, _*_, _/_, _%_, _<_, _≤_};
+ghost use lib.ListN.{length, getD};
+ghost use Rattle.wire.specs.Payload.{placeOf, wordAt, ThreeAt, FourAt, Copied};
+use crate::Four;
 use crate::Three;
 
 // Byte `off` of the payload; 0 past the file's end.
@@ -99,4 +100,76 @@ pub fn place_after(at: usize) -> usize
         return at + 3;
     }
     at + 11
+}
+
+// Four bytes of the payload from `off` on, as those of a step: read in one go where they stand in one block.
+pub fn payload_four(file: &[u8], off: usize) -> Four
+    requires { ⌜ off + 4 ≤ length (now file) / 512 * 504 ⌝ }
+    ensures { λ r. ⌜ FourAt (now (file .entry)) off r ⌝ }
+{
+    let at = off + off / 504 * 8 + 6;
+    if at % 512 < 507 {
+        let a = file[at];
+        let b = file[at + 1];
+        let c = file[at + 2];
+        let d = file[at + 3];
+        return Four {
+            first: a,
+            second: b,
+            third: c,
+            fourth: d,
+        };
+    }
+    let a = payload_byte(file, off);
+    let b = payload_byte(file, off + 1);
+    let c = payload_byte(file, off + 2);
+    let d = payload_byte(file, off + 3);
+    Four {
+        first: a,
+        second: b,
+        third: c,
+        fourth: d,
+    }
+}
+
+// Copies bytes to as many others.
+fn copy_bytes(bytes: &[u8], out: &mut [u8])
+    requires { ⌜ length (now bytes) ≡ length (now out) ⌝ }
+    ensures { λ q. ⌜ now (out .exit) ≡ now (bytes .entry) ⌝ }
+{
+    let mut i: usize = 0;
+    while i < bytes.len() {
+        let x = bytes[i];
+        out[i] = x;
+        i += 1;
+    }
+}
+
+// How far bytes i to n reach in the block in which byte i stands at `at`.
+fn part_end(i: usize, n: usize, at: usize) -> usize
+    requires { ⌜ (i < n) × (at % 512 < 510) ⌝ }
+    ensures { λ e. ⌜ (i < e) × (e ≤ n) × (at % 512 + (e - i) ≤ 510) ⌝ }
+{
+    let left = 510 - at % 512;
+    if n - i <= left {
+        return n;
+    }
+    i + left
+}
+
+// Copies the payload's bytes from `from` on, as many as there is room for: block by block.
+pub fn payload_part(file: &[u8], from: usize, out: &mut [u8])
+    requires { ⌜ from + length (now out) ≤ length (now file) / 512 * 504 ⌝ }
+    ensures { λ q. ⌜ Copied (now (file .entry)) from (now (out .exit)) (length (now (out .entry))) ⌝ }
+{
+    let n = out.len();
+    let mut i: usize = 0;
+    while i < n {
+        let off = from + i;
+        let at = off + off / 504 * 8 + 6;
+        let e = part_end(i, n, at);
+        let end = at + (e - i);
+        copy_bytes(&file[at..end], &mut out[i..e]);
+        i = e;
+    }
 }

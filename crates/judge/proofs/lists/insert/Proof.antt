@@ -1,64 +1,46 @@
 use borrow.Author.Needs.{needs}
-use native.Mathlib.Omega.{arith}
-use mathlib.Core.Path.{_≡_, sym, ap, _∙_}
-use Prim.Native.Nat.{_+_, _-_, _≤_, _<_}
-use lib.ListN.{length, set, getD}
-use Rattle.judge.specs.Lists.{Parting, part-none, part-more, part-all}
+use mathlib.Core.Path.{refl}
+use Prim.Native.Nat.{_-_}
+use Rattle.judge.specs.Lists.{part-mid, part-all}
 use Rattle.judge.proofs.lists.insert.Statement.{statement}
 use Rattle.judge.proofs.lists.insert.Tie as tie
+use Rattle.judge.proofs.lists.shift_up.Reads as shift-up-reads
 
-abbrev Inv-loop : tie.InvT-loop
-Inv-loop part₀ n t r i₀ part i = (t ≤ i) × (i ≤ n) × (length part ≡ length part₀) × Parting part₀ n i part
+add-e : tie.Need-add-e
+add-e c = search needs
 
-abbrev μ-loop : tie.MeasureT-loop
-μ-loop part₀ n t r i₀ part i = i
+sub-shift-up : tie.Need-sub-shift-up
+sub-shift-up c = search needs
 
-loop-holds : tie.Need-loop-holds Inv-loop μ-loop
-loop-holds c =
-    (search needs, search needs, search needs, part-none _ _)
+part-shift-up-start : tie.Need-part-shift-up-start
+part-shift-up-start c = search needs
 
-sub-x : tie.Need-sub-x Inv-loop μ-loop
-sub-x c = search needs
+part-shift-up-end : tie.Need-part-shift-up-end
+part-shift-up-end c = search needs
 
-slice-read-x : tie.Need-slice-read-x Inv-loop μ-loop
-slice-read-x c = search needs
+shift-up-requires : tie.Need-shift-up-requires
+shift-up-requires c κs = search needs
 
-slice-write-part : tie.Need-slice-write-part Inv-loop μ-loop
+slice-write-part : tie.Need-slice-write-part
 slice-write-part c = search needs
 
-sub-i : tie.Need-sub-i Inv-loop μ-loop
-sub-i c = search needs
-
-loop-less : tie.Need-loop-less Inv-loop μ-loop
-loop-less c = search needs
-
-loop-again : tie.Need-loop-again Inv-loop μ-loop
-loop-again c =
-    (search needs, search needs, part-more _ _ _ _ (omega arith) (c .before .before .loop .inv .1) (c .before .before .before .pre .1) (c .before .before .loop .inv .3) .long, part-more _ _ _ _ (omega arith) (c .before .before .loop .inv .1) (c .before .before .before .pre .1) (c .before .before .loop .inv .3))
-
-slice-write-part-2 : tie.Need-slice-write-part-2 Inv-loop μ-loop
-slice-write-part-2 c = search needs
-
-same-length : tie.Need-same-length Inv-loop μ-loop
+same-length : tie.Need-same-length
 same-length c = search needs
 
-returns : tie.Need-returns Inv-loop μ-loop
+returns : tie.Need-returns
 returns c =
-    part-all _ _ _ _ _ _ (c .before .before .pre .0) (c .before .before .pre .1) (omega arith) (c .before .loop .inv .3)
+    let a = c .before .before .before .before .before .args in
+    part-all (a .part .now) (a .n) (a .t) (a .r) (a .t) _ (c .before .before .before .before .before .pre .0) (c .before .before .before .before .before .pre .1) refl (part-mid (a .part .now) _ (a .n) (a .t) _ (c .before .before .before .before .before .pre .0) (c .before .before .before .before .before .pre .1) refl (c .before .before .shift-up .ensures))
 
 pub insert-spec : {M : Type 1} → statement M
 insert-spec =
     tie.close
     (tie.spec
-    Inv-loop
-    μ-loop
-    loop-holds
-    sub-x
-    slice-read-x
+    add-e
+    sub-shift-up
+    part-shift-up-start
+    part-shift-up-end
+    shift-up-requires
     slice-write-part
-    sub-i
-    loop-less
-    loop-again
-    slice-write-part-2
     same-length
     returns)

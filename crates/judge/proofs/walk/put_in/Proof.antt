@@ -1,21 +1,19 @@
 use borrow.Author.Needs.{needs}
 use mathlib.Core.List.{List}
-use mathlib.Core.Path.{_≡_, ap, sym, subst, _∙_}
+use mathlib.Core.Path.{_≡_, ap, sym, _∙_}
 use Prim.Native.Nat.{ℕ, suc, _+_, _-_}
 use native.Mathlib.Numerals.{add-one}
-use lib.ListN.{getD, length, take, drop, set, replicate, length-drop}
+use lib.ListN.{getD, length, take, drop, set, length-drop}
 use lib.Seq.{length-take-le}
 use native.Mathlib.Omega.{arith}
-use Rattle.clique.specs.Comparing.{cells-length}
 use Rattle.wire.specs.Payload.{payload, held-length}
 use Rattle.orders.specs.Orders.{entered}
 use Rattle.orders.specs.Lengths.{entered-length}
 use Rattle.resolve.specs.Given.{kindAt}
 use Rattle.resolve.specs.Held.{heldPart}
-use Rattle.judge.specs.Lists.{Rewritten}
+use Rattle.judge.specs.Entering.{entryOn}
 use Rattle.judge.specs.Held.{rest-is, rest-length, changed-rest}
-use Rattle.judge.specs.Steps.{extra-most, extra-all}
-use borrow.Author.Needs.{needs}
+use Rattle.judge.specs.Steps.{extra-all}
 use Rattle.judge.proofs.walk.put_in.Statement.{statement}
 use Rattle.judge.proofs.walk.put_in.Tie as tie
 use Rattle.judge.proofs.walk.enter_in.Reads as enter-in-reads
@@ -62,24 +60,11 @@ part-enter-in-start c = search needs
 part-enter-in-end : tie.Need-part-enter-in-end
 part-enter-in-end c = search needs
 
-array-borrow-prefix-list : tie.Need-array-borrow-prefix-list
-array-borrow-prefix-list c =
-    let a = c .before .before .before .before .before .before .before .before .before .args in
-    let z : ℕ = getD (a .zone .now) (a .v) 0 in
-    omega (arith, c .before .before .before .before .before .before .before .before .before .pre .1 .extra, extra-most (getD (a .kind .now) z 0) (getD (a .size .now) z 0) (getD (a .counts .now) z 0), c .before .before .before .before .before .before .before .before .before .pre .1 .at .here .small)
-
-slice-aggregate-enter-in : tie.Need-slice-aggregate-enter-in
-slice-aggregate-enter-in c =
-    let a = c .before .before .before .before .before .before .before .before .before .before .args in
-    let z : ℕ = getD (a .zone .now) (a .v) 0 in
-    sym (cells-length (a .e) (omega (arith, c .before .before .before .before .before .before .before .before .before .before .pre .1 .extra, extra-most (getD (a .kind .now) z 0) (getD (a .size .now) z 0) (getD (a .counts .now) z 0), c .before .before .before .before .before .before .before .before .before .before .pre .1 .at .here .small)))
-
 enter-in-requires : tie.Need-enter-in-requires
 enter-in-requires c κs =
-    let a = c .before .before .before .before .before .before .before .before .before .before .args in
+    let a = c .before .before .before .before .before .before .before .before .before .args in
     let z : ℕ = getD (a .zone .now) (a .v) 0 in
-    let y : length {A = ℕ} (take (a .e) (replicate 128 0)) ≡ a .e = cells-length (a .e) (omega (arith, c .before .before .before .before .before .before .before .before .before .before .pre .1 .extra, extra-most (getD (a .kind .now) z 0) (getD (a .size .now) z 0) (getD (a .counts .now) z 0), c .before .before .before .before .before .before .before .before .before .before .pre .1 .at .here .small)) in
-    (c .before .before .before .before .before .before .before .before .before .before .pre .1 .free, omega (arith, rest-length (getD (a .first .now) z 0) (a .cells .now), c .before .before .before .before .before .before .before .before .before .before .pre .1 .at .here .room), c .before .before .before .before .before .before .before .before .before .before .pre .1 .at .here .small, c .before .before .before .before .before .before .before .before .before .before .pre .1 .at .inside, y ∙ c .before .before .before .before .before .before .before .before .before .before .pre .1 .extra, omega (arith, y, c .before .before .before .before .before .before .before .before .before .before .pre .0))
+    (c .before .before .before .before .before .before .before .before .before .pre .1 .free, omega (arith, rest-length (getD (a .first .now) z 0) (a .cells .now), c .before .before .before .before .before .before .before .before .before .pre .1 .at .here .room), c .before .before .before .before .before .before .before .before .before .pre .1 .at .here .small, c .before .before .before .before .before .before .before .before .before .pre .1 .at .inside, c .before .before .before .before .before .before .before .before .before .pre .1 .extra, c .before .before .before .before .before .before .before .before .before .pre .0, c .before .before .before .before .before .before .before .before .before .pre .1 .index)
 
 add-counts : tie.Need-add-counts
 add-counts c = search needs
@@ -95,19 +80,20 @@ same-length c = search needs
 
 returns : tie.Need-returns
 returns c =
-    let a = c .before .before .before .before .before .before .before .before .before .before .before .before .before .before .args in
+    λ behind w.
+    let a = c .before .before .before .before .before .before .before .before .before .before .before .before .args in
     let z : ℕ = getD (a .zone .now) (a .v) 0 in
     let n : ℕ = getD (a .counts .now) z 0 in
     let m : ℕ = getD (a .size .now) z 0 in
     let l : List ℕ = take n (drop (getD (a .first .now) z 0) (a .cells .now)) in
-    let q : length l ≡ n = length-take-le n (drop (getD (a .first .now) z 0) (a .cells .now)) (omega (arith, length-drop (getD (a .first .now) z 0) (a .cells .now), c .before .before .before .before .before .before .before .before .before .before .before .before .before .before .pre .1 .at .here .room, c .before .before .before .before .before .before .before .before .before .before .before .before .before .before .pre .1 .at .here .few)) in
-    let y : length {A = ℕ} (take (a .e) (replicate 128 0)) ≡ a .e = cells-length (a .e) (omega (arith, c .before .before .before .before .before .before .before .before .before .before .before .before .before .before .pre .1 .extra, extra-most (getD (a .kind .now) z 0) m n, c .before .before .before .before .before .before .before .before .before .before .before .before .before .before .pre .1 .at .here .small)) in
-    let h : length (heldPart (a .file .now) (a .from + a .e) (a .from) (a .e)) ≡ a .e = length-take-le (a .e) (drop (a .from) (take (a .from + a .e) (payload (a .file .now)))) (omega (arith, length-drop (a .from) (take (a .from + a .e) (payload (a .file .now))), held-length (a .file .now) (a .from + a .e) (c .before .before .before .before .before .before .before .before .before .before .before .before .before .before .pre .0))) in
-    let s : length (entered (kindAt (a .kind .now) (a .zone .now) (a .v)) m l (a .r) (getD (a .place .now) (a .v) 0) (a .behind) (heldPart (a .file .now) (a .from + a .e) (a .from) (a .e))) ≡ suc n =
-    entered-length (kindAt (a .kind .now) (a .zone .now) (a .v)) m l (a .r) (getD (a .place .now) (a .v) 0) (a .behind) (heldPart (a .file .now) (a .from + a .e) (a .from) (a .e)) (λ k x. h ∙ extra-all (getD (a .kind .now) z 0) m n (a .e) (c .before .before .before .before .before .before .before .before .before .before .before .before .before .before .pre .1 .extra) k (ap suc (sym q) ∙ x)) ∙ ap suc q in
+    let f : List ℕ = heldPart (a .file .now) (a .from + a .e) (a .from) (a .e) in
+    let q : length l ≡ n = length-take-le n (drop (getD (a .first .now) z 0) (a .cells .now)) (omega (arith, length-drop (getD (a .first .now) z 0) (a .cells .now), c .before .before .before .before .before .before .before .before .before .before .before .before .pre .1 .at .here .room, c .before .before .before .before .before .before .before .before .before .before .before .before .pre .1 .at .here .few)) in
+    let h : length f ≡ a .e = length-take-le (a .e) (drop (a .from) (take (a .from + a .e) (payload (a .file .now)))) (omega (arith, length-drop (a .from) (take (a .from + a .e) (payload (a .file .now))), held-length (a .file .now) (a .from + a .e) (c .before .before .before .before .before .before .before .before .before .before .before .before .pre .0))) in
+    let s : length (entered (kindAt (a .kind .now) (a .zone .now) (a .v)) m l (a .r) (getD (a .place .now) (a .v) 0) behind f) ≡ suc n =
+    entered-length (kindAt (a .kind .now) (a .zone .now) (a .v)) m l (a .r) (getD (a .place .now) (a .v) 0) behind f (λ k x. h ∙ extra-all (getD (a .kind .now) z 0) m n (a .e) (c .before .before .before .before .before .before .before .before .before .before .before .before .pre .1 .extra) k (ap suc (sym q) ∙ x)) ∙ ap suc q in
     record {
-      change = changed-rest (a .cells .now) (getD (a .first .now) z 0) m (λ (x : List ℕ). entered (kindAt (a .kind .now) (a .zone .now) (a .v)) m (take n x) (a .r) (getD (a .place .now) (a .v) 0) (a .behind) (heldPart (a .file .now) (a .from + a .e) (a .from) (a .e))) _ (omega (arith, c .before .before .before .before .before .before .before .before .before .before .before .before .before .before .pre .1 .at .here .room))
-          (rw y at (c .before .before .before .enter-in .ensures));
+      change = changed-rest (a .cells .now) (getD (a .first .now) z 0) m (λ (x : List ℕ). entered (kindAt (a .kind .now) (a .zone .now) (a .v)) m (take n x) (a .r) (getD (a .place .now) (a .v) 0) behind f) _ (omega (arith, c .before .before .before .before .before .before .before .before .before .before .before .before .pre .1 .at .here .room))
+          (c .before .before .enter-in .ensures behind (λ y. w y ∙ ap (λ (x : List ℕ). entryOn (kindAt (a .kind .now) (a .zone .now) (a .v)) behind (take n x)) (sym (rest-is (getD (a .first .now) z 0) (a .cells .now)))));
       count = ap (λ (x : ℕ). set (a .counts .now) z x) (add-one n ∙ sym s);
     }
 
@@ -129,8 +115,6 @@ put-in-spec =
     sub-enter-in
     part-enter-in-start
     part-enter-in-end
-    array-borrow-prefix-list
-    slice-aggregate-enter-in
     enter-in-requires
     add-counts
     cast-counts

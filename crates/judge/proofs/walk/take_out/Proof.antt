@@ -5,15 +5,12 @@ use Prim.Native.Nat.{ℕ, _-_}
 use lib.ListN.{getD, length, take, drop, set, length-drop}
 use lib.Seq.{length-take-le}
 use native.Mathlib.Omega.{arith}
-use Rattle.spec.specs.Outcome.{indexOf}
 use Rattle.orders.specs.Orders.{without}
 use Rattle.orders.specs.Lengths.{without-length}
 use Rattle.judge.specs.Lists.{wider}
-use Rattle.judge.specs.Held.{rest-is, rest-length, changed-rest}
-use borrow.Author.Needs.{needs}
+use Rattle.judge.specs.Held.{changed-rest}
 use Rattle.judge.proofs.walk.take_out.Statement.{statement}
 use Rattle.judge.proofs.walk.take_out.Tie as tie
-use Rattle.hall.proofs.goals.index_of.Reads as index-of-reads
 use Rattle.judge.proofs.lists.remove.Reads as remove-reads
 
 element-copy-out-z : tie.Need-element-copy-out-z
@@ -34,18 +31,6 @@ element-copy-out-n c = search needs
 cast-n : tie.Need-cast-n
 cast-n c = search needs
 
-sub-index-of : tie.Need-sub-index-of
-sub-index-of c = search needs
-
-part-index-of-start : tie.Need-part-index-of-start
-part-index-of-start c = search needs
-
-part-index-of-end : tie.Need-part-index-of-end
-part-index-of-end c = search needs
-
-index-of-requires : tie.Need-index-of-requires
-index-of-requires c κs = search needs
-
 sub-remove : tie.Need-sub-remove
 sub-remove c = search needs
 
@@ -56,11 +41,7 @@ part-remove-end : tie.Need-part-remove-end
 part-remove-end c = search needs
 
 remove-requires : tie.Need-remove-requires
-remove-requires c κs =
-    let a = c .before .before .before .before .before .before .before .before .args in
-    let z : ℕ = getD (a .zone .now) (a .u) 0 in
-    let e : indexOf (a .r) (take (getD (a .counts .now) z 0) (take (length (a .cells .now) - getD (a .first .now) z 0) (drop (getD (a .first .now) z 0) (a .cells .now)))) ≡ indexOf (a .r) (take (getD (a .counts .now) z 0) (drop (getD (a .first .now) z 0) (a .cells .now))) = ap (λ (x : List ℕ). indexOf (a .r) (take (getD (a .counts .now) z 0) x)) (rest-is (getD (a .first .now) z 0) (a .cells .now)) in
-    (omega (arith, c .before .index-of .ensures, e, c .before .before .before .before .before .before .before .before .pre .in-list), omega (arith, rest-length (getD (a .first .now) z 0) (a .cells .now), c .before .before .before .before .before .before .before .before .pre .at .here .room, c .before .before .before .before .before .before .before .before .pre .at .here .few))
+remove-requires c κs = search needs
 
 sub-counts : tie.Need-sub-counts
 sub-counts c = search needs
@@ -76,14 +57,14 @@ same-length c = search needs
 
 returns : tie.Need-returns
 returns c =
-    let a = c .before .before .before .before .before .before .before .before .before .before .before .args in
+    let a = c .before .before .before .before .before .before .before .before .args in
     let z : ℕ = getD (a .zone .now) (a .u) 0 in
     let n : ℕ = getD (a .counts .now) z 0 in
     let l : List ℕ = take n (drop (getD (a .first .now) z 0) (a .cells .now)) in
-    let q : length l ≡ n = length-take-le n (drop (getD (a .first .now) z 0) (a .cells .now)) (omega (arith, length-drop (getD (a .first .now) z 0) (a .cells .now), c .before .before .before .before .before .before .before .before .before .before .before .pre .at .here .room, c .before .before .before .before .before .before .before .before .before .before .before .pre .at .here .few)) in
-    let s : length (without (indexOf (a .r) l) l) ≡ n - 1 = without-length (indexOf (a .r) l) l (omega (arith, q, c .before .before .before .before .before .before .before .before .before .before .before .pre .in-list)) ∙ ap (λ (x : ℕ). x - 1) q in
+    let q : length l ≡ n = length-take-le n (drop (getD (a .first .now) z 0) (a .cells .now)) (omega (arith, length-drop (getD (a .first .now) z 0) (a .cells .now), c .before .before .before .before .before .before .before .before .pre .at .here .room, c .before .before .before .before .before .before .before .before .pre .at .here .few)) in
+    let s : length (without (a .t) l) ≡ n - 1 = without-length (a .t) l (omega (arith, q, c .before .before .before .before .before .before .before .before .pre .in-list)) ∙ ap (λ (x : ℕ). x - 1) q in
     record {
-      change = changed-rest (a .cells .now) (getD (a .first .now) z 0) (getD (a .size .now) z 0) (λ (x : List ℕ). without (indexOf (a .r) (take n x)) (take n x)) _ (omega (arith, c .before .before .before .before .before .before .before .before .before .before .before .pre .at .here .room)) (wider _ (c .before .before .before .before .before .before .before .before .before .before .before .pre .at .here .few) (rw (c .before .before .before .before .index-of .ensures) at (c .before .before .remove .ensures)));
+      change = changed-rest (a .cells .now) (getD (a .first .now) z 0) (getD (a .size .now) z 0) (λ (x : List ℕ). without (a .t) (take n x)) _ (omega (arith, c .before .before .before .before .before .before .before .before .pre .at .here .room)) (wider _ (c .before .before .before .before .before .before .before .before .pre .at .here .few) (c .before .before .remove .ensures));
       count = ap (λ (x : ℕ). set (a .counts .now) z x) (sym s);
     }
 
@@ -97,10 +78,6 @@ take-out-spec =
     cast-a
     element-copy-out-n
     cast-n
-    sub-index-of
-    part-index-of-start
-    part-index-of-end
-    index-of-requires
     sub-remove
     part-remove-start
     part-remove-end

@@ -1,13 +1,11 @@
 use borrow.Author.Needs.{needs}
 use mathlib.Core.List.{List}
-use mathlib.Core.Path.{_≡_, ap, sym, subst, _∙_}
 use Prim.Native.Nat.{ℕ}
-use lib.ListN.{getD, length, take}
-use native.Mathlib.Omega.{arith}
-use Rattle.orders.specs.Orders.{Holds}
+use mathlib.Core.Path.{subst}
+use lib.ListN.{getD, take}
 use Rattle.resolve.specs.Given.{kindAt}
 use Rattle.judge.specs.Held.{rest-is}
-use borrow.Author.Needs.{needs}
+use Rattle.judge.specs.Steps.{EntryTested}
 use Rattle.judge.proofs.walk.test_entry_at.Statement.{statement}
 use Rattle.judge.proofs.walk.test_entry_at.Tie as tie
 use Rattle.judge.proofs.walk.test_entry.Reads as test-entry-reads
@@ -59,10 +57,9 @@ test-entry-requires c κs = search needs
 
 returns : tie.Need-returns
 returns c =
-    λ b p h l i.
     let a = c .before .before .before .before .before .before .before .before .before .before .args in
     let z : ℕ = getD (a .zone .now) (a .v) 0 in
-    c .test-entry .ensures b p (subst (λ (x : List ℕ). Holds (kindAt (a .kind .now) (a .zone .now) (a .v)) (take (getD (a .counts .now) z 0) x) b) (sym (rest-is (getD (a .first .now) z 0) (a .cells .now))) h) l i
+    subst (λ (x : List ℕ). EntryTested (a .file .now) (a .len) (a .o) (kindAt (a .kind .now) (a .zone .now) (a .v)) (getD (a .counts .now) z 0) (take (getD (a .counts .now) z 0) x) (getD (a .size .now) z 0) (a .r) (getD (a .place .now) (a .v) 0) (a .behind) (c .test-entry .result)) (rest-is (getD (a .first .now) z 0) (a .cells .now)) (c .test-entry .ensures)
 
 pub test-entry-at-spec : {M : Type 1} → statement M
 test-entry-at-spec =

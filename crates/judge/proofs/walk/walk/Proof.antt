@@ -10,7 +10,7 @@ use Rattle.wire.specs.Payload.{payload}
 use lib.ListN.{length, take}
 use Prim.Native.Nat.{_-_, _≤_}
 use native.Mathlib.Omega.{arith}
-use mathlib.Core.Path.{_≡_, refl, sym, ap, _∙_}
+use mathlib.Core.Path.{_≡_, sym, ap}
 use Rattle.judge.specs.Held.{Held}
 use Rattle.judge.specs.Making.{marching-room}
 use Rattle.judge.specs.Judging.{Judging, judging-start, judging-offset, judging-step, judging-next, judging-stop, judging-end}
@@ -42,8 +42,7 @@ test-step-requires c κs =
     )
 
 enum-known-t : tie.Need-enum-known-t Inv-loop μ-loop
-enum-known-t c =
-    search needs
+enum-known-t c = search needs
 
 add-next : tie.Need-add-next Inv-loop μ-loop
 add-next c =
@@ -51,7 +50,9 @@ add-next c =
     let q = c .before .before .before .before .before .before .before .before .before .before .before .pre .1 in
     let l = c .before .before .before .before .before .before .before .loop in
     let j = l .inv .3 (q .map) (q .given) (q .state) (q .consistent) (q .held) in
-    let y = marching-room (a .file .now) (l .o) _ (a .kind .now) (a .first .now) (a .size .now) (a .listed .now) (a .zone .now) (a .place .now) (l .counts) (l .cells) (judging-step (q .map) (a .n) (a .k) (a .kind .now) (a .first .now) (a .size .now) (a .listed .now) (a .zone .now) (a .place .now) (a .rows .now) (q .given) (a .file .now) (a .len) (c .before .before .before .before .before .before .before .before .before .before .before .pre .0 .0) (a .count) (q .state) (l .i) (l .o) (l .counts) (l .cells) (l .inv .1) (l .inv .2) j (c .before .before .before .test-step .result) (c .before .before .before .test-step .ensures (q .map) (q .given) (j .world .state) (j .walking .consistent) (j .held) (l .i)) _ (c .before .t .given .1)) in
+    let y = marching-room (a .file .now) (l .o) _ (a .kind .now) (a .first .now) (a .size .now) (a .listed .now) (a .zone .now) (a .place .now) (l .counts) (l .cells) (judging-step (q .map) (a .n) (a .k) (a .kind .now) (a .first .now) (a .size .now) (a .listed .now) (a .zone .now) (a .place .now) (a .rows .now) (q .given) (a .file .now) (a .len) (c .before .before .before .before .before .before .before .before .before .before .before .pre .0 .0) (a .count) (q .state) (l .i) (l .o) (l .counts) (l .cells) (l .inv .1) (l .inv .2) j (c .before .before .before .test-step .result .test) (c .before .before .before .test-step .ensures .tests (q .map) (q .given) (j .world .state) (j .walking .consistent) (j .held) (l .i)) _ (c .before .t .given .1)) in
+    let z = c .before .before .before .before .before .before .before .before .before .before .before .good .0 .0 in
+    let w = c .before .before .before .before .before .before .before .before .before .before .before .pre .0 .0 in
     search needs
 
 add-next-2 : tie.Need-add-next-2 Inv-loop μ-loop
@@ -60,38 +61,43 @@ add-next-2 c =
     let q = c .before .before .before .before .before .before .before .before .before .before .before .pre .1 in
     let l = c .before .before .before .before .before .before .before .loop in
     let j = l .inv .3 (q .map) (q .given) (q .state) (q .consistent) (q .held) in
-    let y = marching-room (a .file .now) (l .o) _ (a .kind .now) (a .first .now) (a .size .now) (a .listed .now) (a .zone .now) (a .place .now) (l .counts) (l .cells) (judging-step (q .map) (a .n) (a .k) (a .kind .now) (a .first .now) (a .size .now) (a .listed .now) (a .zone .now) (a .place .now) (a .rows .now) (q .given) (a .file .now) (a .len) (c .before .before .before .before .before .before .before .before .before .before .before .pre .0 .0) (a .count) (q .state) (l .i) (l .o) (l .counts) (l .cells) (l .inv .1) (l .inv .2) j (c .before .before .before .test-step .result) (c .before .before .before .test-step .ensures (q .map) (q .given) (j .world .state) (j .walking .consistent) (j .held) (l .i)) _ (c .before .t .given .1)) in
+    let y = marching-room (a .file .now) (l .o) _ (a .kind .now) (a .first .now) (a .size .now) (a .listed .now) (a .zone .now) (a .place .now) (l .counts) (l .cells) (judging-step (q .map) (a .n) (a .k) (a .kind .now) (a .first .now) (a .size .now) (a .listed .now) (a .zone .now) (a .place .now) (a .rows .now) (q .given) (a .file .now) (a .len) (c .before .before .before .before .before .before .before .before .before .before .before .pre .0 .0) (a .count) (q .state) (l .i) (l .o) (l .counts) (l .cells) (l .inv .1) (l .inv .2) j (c .before .before .before .test-step .result .test) (c .before .before .before .test-step .ensures .tests (q .map) (q .given) (j .world .state) (j .walking .consistent) (j .held) (l .i)) _ (c .before .t .given .1)) in
+    let z = c .before .before .before .before .before .before .before .before .before .before .before .good .0 .0 in
+    let w = c .before .before .before .before .before .before .before .before .before .before .before .pre .0 .0 in
     search needs
 
 make-step-requires : tie.Need-make-step-requires Inv-loop μ-loop
 make-step-requires c κs =
-    let a = c .before .before .before .before .before .before .before .before .before .before .before .before .before .args in
-    let q = c .before .before .before .before .before .before .before .before .before .before .before .before .before .pre .1 in
-    let l = c .before .before .before .before .before .before .before .before .before .loop in
+    let a = c .before .before .before .before .before .before .before .before .before .before .before .before .before .before .args in
+    let q = c .before .before .before .before .before .before .before .before .before .before .before .before .before .before .pre .1 in
+    let l = c .before .before .before .before .before .before .before .before .before .before .loop in
     let j = l .inv .3 (q .map) (q .given) (q .state) (q .consistent) (q .held) in
-    judging-step (q .map) (a .n) (a .k) (a .kind .now) (a .first .now) (a .size .now) (a .listed .now) (a .zone .now) (a .place .now) (a .rows .now) (q .given) (a .file .now) (a .len) (c .before .before .before .before .before .before .before .before .before .before .before .before .before .pre .0 .0) (a .count) (q .state) (l .i) (l .o) (l .counts) (l .cells) (l .inv .1) (l .inv .2) j (c .before .before .before .before .before .test-step .result) (c .before .before .before .before .before .test-step .ensures (q .map) (q .given) (j .world .state) (j .walking .consistent) (j .held) (l .i)) _ (c .before .before .before .t .given .1)
+    (judging-step (q .map) (a .n) (a .k) (a .kind .now) (a .first .now) (a .size .now) (a .listed .now) (a .zone .now) (a .place .now) (a .rows .now) (q .given) (a .file .now) (a .len) (c .before .before .before .before .before .before .before .before .before .before .before .before .before .before .pre .0 .0) (a .count) (q .state) (l .i) (l .o) (l .counts) (l .cells) (l .inv .1) (l .inv .2) j (c .before .before .before .before .before .before .test-step .result .test) (c .before .before .before .before .before .before .test-step .ensures .tests (q .map) (q .given) (j .world .state) (j .walking .consistent) (j .held) (l .i)) _ (c .before .before .before .before .t .given .1), c .before .before .before .before .before .before .test-step .ensures .chosen _ (c .before .before .before .before .t .given .1))
 
 add-i : tie.Need-add-i Inv-loop μ-loop
-add-i c = search needs
+add-i c =
+    let w = c .before .before .before .before .before .before .before .before .before .before .before .before .loop-test .taken in
+    let z = c .before .before .before .before .before .before .before .before .before .before .before .before .before .before .before .before .before .pre .0 .2 in
+    search needs
 
 loop-less : tie.Need-loop-less Inv-loop μ-loop
 loop-less c = search needs
 
 loop-again : tie.Need-loop-again Inv-loop μ-loop
 loop-again c =
-    let a = c .before .before .before .before .before .before .before .before .before .before .before .before .before .before .before .before .args in
-    let q = c .before .before .before .before .before .before .before .before .before .before .before .before .before .before .before .before .pre .1 in
-    let l = c .before .before .before .before .before .before .before .before .before .before .before .before .loop in
+    let a = c .before .before .before .before .before .before .before .before .before .before .before .before .before .before .before .before .before .args in
+    let q = c .before .before .before .before .before .before .before .before .before .before .before .before .before .before .before .before .before .pre .1 in
+    let l = c .before .before .before .before .before .before .before .before .before .before .before .before .before .loop in
     let j₀ = l .inv .3 (q .map) (q .given) (q .state) (q .consistent) (q .held) in
-    let y = c .before .before .make-step .ensures (judging-step (q .map) (a .n) (a .k) (a .kind .now) (a .first .now) (a .size .now) (a .listed .now) (a .zone .now) (a .place .now) (a .rows .now) (q .given) (a .file .now) (a .len) (c .before .before .before .before .before .before .before .before .before .before .before .before .before .before .before .before .pre .0 .0) (a .count) (q .state) (l .i) (l .o) (l .counts) (l .cells) (l .inv .1) (l .inv .2) j₀ (c .before .before .before .before .before .before .before .before .test-step .result) (c .before .before .before .before .before .before .before .before .test-step .ensures (q .map) (q .given) (j₀ .world .state) (j₀ .walking .consistent) (j₀ .held) (l .i)) _ (c .before .before .before .before .before .before .t .given .1)) in (
+    let y = c .before .before .make-step .ensures (judging-step (q .map) (a .n) (a .k) (a .kind .now) (a .first .now) (a .size .now) (a .listed .now) (a .zone .now) (a .place .now) (a .rows .now) (q .given) (a .file .now) (a .len) (c .before .before .before .before .before .before .before .before .before .before .before .before .before .before .before .before .before .pre .0 .0) (a .count) (q .state) (l .i) (l .o) (l .counts) (l .cells) (l .inv .1) (l .inv .2) j₀ (c .before .before .before .before .before .before .before .before .before .test-step .result .test) (c .before .before .before .before .before .before .before .before .before .test-step .ensures .tests (q .map) (q .given) (j₀ .world .state) (j₀ .walking .consistent) (j₀ .held) (l .i)) _ (c .before .before .before .before .before .before .before .t .given .1)) in (
       search needs,
       y .room,
       y .many,
       λ m d s hc x.
           let j = l .inv .3 m d s hc x in
-          let t = c .before .before .before .before .before .before .before .before .test-step .ensures m d (j .world .state) (j .walking .consistent) (j .held) (l .i) in
-          judging-next m (a .n) (a .k) (a .kind .now) (a .first .now) (a .size .now) (a .listed .now) (a .zone .now) (a .place .now) (a .rows .now) d (a .file .now) (a .len) (c .before .before .before .before .before .before .before .before .before .before .before .before .before .before .before .before .pre .0 .0) (a .count) s (l .i) (l .o) (l .counts) (l .cells) (l .inv .1) (l .inv .2) j (c .before .before .before .before .before .before .before .before .test-step .result) t _ (c .before .before .before .before .before .before .t .given .1) (c .before .before .before .before .before .before .before .before .before .before .before .loop-test .taken) _ _
-          (c .before .before .make-step .ensures (judging-step m (a .n) (a .k) (a .kind .now) (a .first .now) (a .size .now) (a .listed .now) (a .zone .now) (a .place .now) (a .rows .now) d (a .file .now) (a .len) (c .before .before .before .before .before .before .before .before .before .before .before .before .before .before .before .before .pre .0 .0) (a .count) s (l .i) (l .o) (l .counts) (l .cells) (l .inv .1) (l .inv .2) j (c .before .before .before .before .before .before .before .before .test-step .result) t _ (c .before .before .before .before .before .before .t .given .1))),
+          let t = c .before .before .before .before .before .before .before .before .before .test-step .ensures .tests m d (j .world .state) (j .walking .consistent) (j .held) (l .i) in
+          judging-next m (a .n) (a .k) (a .kind .now) (a .first .now) (a .size .now) (a .listed .now) (a .zone .now) (a .place .now) (a .rows .now) d (a .file .now) (a .len) (c .before .before .before .before .before .before .before .before .before .before .before .before .before .before .before .before .before .pre .0 .0) (a .count) s (l .i) (l .o) (l .counts) (l .cells) (l .inv .1) (l .inv .2) j (c .before .before .before .before .before .before .before .before .before .test-step .result .test) t _ (c .before .before .before .before .before .before .before .t .given .1) (c .before .before .before .before .before .before .before .before .before .before .before .before .loop-test .taken) _ _
+          (c .before .before .make-step .ensures (judging-step m (a .n) (a .k) (a .kind .now) (a .first .now) (a .size .now) (a .listed .now) (a .zone .now) (a .place .now) (a .rows .now) d (a .file .now) (a .len) (c .before .before .before .before .before .before .before .before .before .before .before .before .before .before .before .before .before .pre .0 .0) (a .count) s (l .i) (l .o) (l .counts) (l .cells) (l .inv .1) (l .inv .2) j (c .before .before .before .before .before .before .before .before .before .test-step .result .test) t _ (c .before .before .before .before .before .before .before .t .given .1))),
     )
 
 refusal-of-requires : tie.Need-refusal-of-requires Inv-loop μ-loop
@@ -108,8 +114,8 @@ returns c =
       l .inv .2,
       λ m d s hc x.
           let j = l .inv .3 m d s hc x in
-          let r : refusalOf (l .i) (c .before .before .test-step .result) ≡ c .refusal-of .result = sym (c .refusal-of .ensures) in
-          rw (← r) (judging-stop m (a .n) (a .k) (a .kind .now) (a .first .now) (a .size .now) (a .listed .now) (a .zone .now) (a .place .now) (a .rows .now) d (a .file .now) (a .len) (c .before .before .before .before .before .before .before .before .before .before .pre .0 .0) (a .count) s (l .i) (l .o) (l .counts) (l .cells) (l .inv .1) (l .inv .2) j (c .before .before .test-step .result) (c .before .before .test-step .ensures m d (j .world .state) (j .walking .consistent) (j .held) (l .i)) (λ e z. other-tag _ (c .before .match .keys2) (ap (tagOf the-type) z)) (c .before .before .before .before .before .loop-test .taken)),
+          let r : refusalOf (l .i) (c .before .before .test-step .result .test) ≡ c .refusal-of .result = sym (c .refusal-of .ensures) in
+          rw (← r) (judging-stop m (a .n) (a .k) (a .kind .now) (a .first .now) (a .size .now) (a .listed .now) (a .zone .now) (a .place .now) (a .rows .now) d (a .file .now) (a .len) (c .before .before .before .before .before .before .before .before .before .before .pre .0 .0) (a .count) s (l .i) (l .o) (l .counts) (l .cells) (l .inv .1) (l .inv .2) j (c .before .before .test-step .result .test) (c .before .before .test-step .ensures .tests m d (j .world .state) (j .walking .consistent) (j .held) (l .i)) (λ e z. other-tag _ (c .before .match .keys2) (ap (tagOf the-type) z)) (c .before .before .before .before .before .loop-test .taken)),
     )
 
 same-length-2 : tie.Need-same-length-2 Inv-loop μ-loop
