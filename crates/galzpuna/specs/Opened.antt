@@ -32,11 +32,11 @@ use Rattle.placing.specs.Fault as placingFault
 use Rattle.placing.specs.Placing.{placingIn, placingOr, PlacingHeld, PlacingIs}
 use Rattle.placing.specs.declared.PlacingRead.{PlacingRead}
 use Rattle.wire.specs.Payload.{payload, held-length, held-byte}
-use Rattle.wire.specs.Checked.{checkedOf, Whole, Held, read-as, held-as}
-use Rattle.wire.specs.declared.Checked.{Checked}
-use Rattle.wire.specs.declared.Checked.the-variants.{Payload}
+use Rattle.checking.specs.Checked.{checkedOf, Whole, Held, read-as, held-as}
+use Rattle.checking.specs.declared.Checked.{Checked}
+use Rattle.checking.specs.declared.Checked.the-variants.{Payload}
 use Rattle.replay.specs.Moves.{moveBy, movesBy, bytesOf, fileBytes, moves-same, moves-length}
-use Rattle.replay.specs.Drawn.{EndsOn}
+use Rattle.drawing.specs.Drawn.{EndsOn}
 use Rattle.galzpuna.specs.Refusals.{refusalOr, movesFile, movesList}
 use Rattle.galzpuna.specs.declared.Refusal.{Refusal}
 use Rattle.galzpuna.specs.declared.Opened.{Opened}

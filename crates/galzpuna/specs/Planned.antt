@@ -21,9 +21,9 @@ use Rattle.theory.specs.Bounds.{plan-bound}
 use Rattle.layout.specs.declared.MapRead.{MapRead}
 use Rattle.placing.specs.declared.PlacingRead.{PlacingRead}
 use Rattle.wire.specs.Payload.{payload}
-use Rattle.wire.specs.Checked.{Whole}
+use Rattle.checking.specs.Checked.{Whole}
 use Rattle.wire.specs.Laid.{laidAll, laid-length}
-use Rattle.wire.specs.Delivered.{deliveredOf, delivered-counted, delivered-over, fits-over}
+use Rattle.answers.specs.Delivered.{deliveredOf, delivered-counted, delivered-over, fits-over}
 use Rattle.zones.specs.Tables.{Tables}
 use Rattle.resolve.specs.Given.{Given, Placement}
 use Rattle.resolve.specs.Fault.{faultOf}

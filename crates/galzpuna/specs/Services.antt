@@ -9,10 +9,10 @@ use Rattle.spec.specs.Arrangement.{Move}
 use Rattle.spec.specs.State.{State, standing, drawnSteps, stepBytes, planPayload, Timed, roundOf, wordBytes, roundsFrom, roundsPayload}
 use Rattle.spec.specs.Services as meaning
 use Rattle.wire.specs.Laid.{laidAll}
-use Rattle.wire.specs.Delivered.{deliveredOf, delivered-counted}
-use Rattle.replay.specs.declared.Drawn.{Drawn}
+use Rattle.answers.specs.Delivered.{deliveredOf, delivered-counted}
+use Rattle.drawing.specs.declared.Drawn.{Drawn}
 use Rattle.replay.specs.Moves.{movesBy, fileBytes, moves-length}
-use Rattle.replay.specs.Drawn.{AllDrawn}
+use Rattle.drawing.specs.Drawn.{AllDrawn}
 use Rattle.placing.specs.declared.PlacingRead.{PlacingRead}
 use Rattle.layout.specs.declared.MapRead.{MapRead}
 use Rattle.galzpuna.specs.declared.Answer.{Answer}

@@ -89,7 +89,7 @@ pub fn open_list(map: &[u8], len: usize, placed: &[u8], moves: &[u8]) -> Opened
     if a.number != 0 {
         return refused(a, m, p);
     }
-    let checked = wire::check_file(moves, 4, 128);
+    let checked = checking::check_file(moves, 4, 128);
     let c = refusals::of_file(checked);
     if c.number != 0 {
         return refused(c, m, p);
@@ -166,7 +166,7 @@ fn resolve_checked(map: &[u8], len: usize, placed: &[u8], plan: &[u8], out: &mut
             count: 0,
         };
     }
-    let checked = wire::check_file(plan, 3, 64);
+    let checked = checking::check_file(plan, 3, 64);
     let c = refusals::of_plan_file(checked);
     if c.number != 0 {
         return Planned {
@@ -198,7 +198,7 @@ fn resolve_checked(map: &[u8], len: usize, placed: &[u8], plan: &[u8], out: &mut
 pub fn resolve_files(map: &[u8], placed: &[u8], plan: &[u8], out: &mut [u8]) -> Planned
     ensures { λ r. ⌜ PlannedIs (now (map .entry)) (now (placed .entry)) (now (plan .entry)) (now (out .entry)) r (now (out .exit)) ⌝ }
 {
-    let filed = wire::check_file(map, 1, 9);
+    let filed = checking::check_file(map, 1, 9);
     let a = refusals::of_map_file(filed);
     if a.number != 0 {
         return Planned {
@@ -258,7 +258,7 @@ fn judge_checked(map: &[u8], len: usize, placed: &[u8], plan: &[u8]) -> Refusal
     if a.number != 0 {
         return a;
     }
-    let checked = wire::check_file(plan, 3, 64);
+    let checked = checking::check_file(plan, 3, 64);
     let c = refusals::of_plan_file(checked);
     if c.number != 0 {
         return c;
@@ -274,7 +274,7 @@ fn judge_checked(map: &[u8], len: usize, placed: &[u8], plan: &[u8]) -> Refusal
 pub fn judge_files(map: &[u8], placed: &[u8], plan: &[u8]) -> Refusal
     ensures { λ r. ⌜ JudgedIs (now (map .entry)) (now (placed .entry)) (now (plan .entry)) r ⌝ }
 {
-    let filed = wire::check_file(map, 1, 9);
+    let filed = checking::check_file(map, 1, 9);
     let a = refusals::of_map_file(filed);
     if a.number != 0 {
         return a;

@@ -17,7 +17,7 @@ fn refuse(out: &mut [u8], number: u32, place: usize) -> Answer
     requires { ⌜ place < 65536 ⌝ }
     ensures { λ r. ⌜ answered r (now (out .exit)) ≡ refusal number place (now (out .entry)) ⌝ }
 {
-    wire::zero(out);
+    answers::zero(out);
     Answer {
         number: number,
         place: place as u32,
@@ -42,9 +42,9 @@ fn draw_checked(map: &[u8], len: usize, placing: &[u8], moves: &[u8], out: &mut 
     let count = o.count;
     let listed = m.listed;
     let s = motion::standing(starts, k);
-    let d = replay::draw_moves(moves, count, m, listed, s, out);
+    let d = drawing::draw_moves(moves, count, m, listed, s, out);
     wire::put_word(out, 0, d.steps);
-    let w = wire::deliver(out, 3, 64, d.bytes);
+    let w = answers::deliver(out, 3, 64, d.bytes);
     Answer {
         number: w.number,
         place: w.value,
@@ -56,7 +56,7 @@ fn draw_checked(map: &[u8], len: usize, placing: &[u8], moves: &[u8], out: &mut 
 pub extern "C" fn galzpuna_draw(map: &[u8], placing: &[u8], moves: &[u8], out: &mut [u8]) -> Answer
     ensures { λ r. ⌜ answered r (now (out .exit)) ≡ drawing (now (map .entry)) (now (placing .entry)) (now (moves .entry)) (length (now (out .entry))) ⌝ }
 {
-    let filed = wire::check_file(map, 1, 9);
+    let filed = checking::check_file(map, 1, 9);
     let f = of_map_file(filed);
     let number = f.number;
     if number != 0 {
@@ -77,9 +77,9 @@ fn rounds_checked(map: &[u8], len: usize, placing: &[u8], moves: &[u8], out: &mu
         return refuse(out, number, f.place);
     }
     let count = o.count;
-    replay::write_rounds(moves, count, out);
+    timing::write_rounds(moves, count, out);
     wire::put_word(out, 0, count);
-    let w = wire::deliver(out, 5, 128, 2 + count * 2);
+    let w = answers::deliver(out, 5, 128, 2 + count * 2);
     Answer {
         number: w.number,
         place: w.value,
@@ -96,7 +96,7 @@ pub extern "C" fn galzpuna_rounds(
 ) -> Answer
     ensures { λ r. ⌜ answered r (now (out .exit)) ≡ rounds (now (map .entry)) (now (placing .entry)) (now (moves .entry)) (length (now (out .entry))) ⌝ }
 {
-    let filed = wire::check_file(map, 1, 9);
+    let filed = checking::check_file(map, 1, 9);
     let f = of_map_file(filed);
     let number = f.number;
     if number != 0 {
@@ -143,7 +143,7 @@ pub extern "C" fn galzpuna_resolve(
     }
     let count = o.count;
     wire::put_word(out, 0, count);
-    let w = wire::deliver(out, 4, 128, 2 + count * 3);
+    let w = answers::deliver(out, 4, 128, 2 + count * 3);
     Answer {
         number: w.number,
         place: w.value,

@@ -12,7 +12,7 @@ use native.Mathlib.Numerals.{add-one}
 use native.Mathlib.Omega.{arith}
 use Rattle.spec.specs.Outcome.{member, indexOf}
 use Rattle.spec.specs.Layout.{Zone, listed, zoneFrom}
-use Rattle.wire.specs.Block.{drop-take}
+use Rattle.wire.specs.Payload.{drop-take}
 
 -- the kind of each zone, where its vertices begin in the listing, and how many they are
 pub record Heads : Type 0 where

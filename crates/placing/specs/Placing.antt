@@ -13,10 +13,10 @@ use Rattle.spec.specs.Outcome.{Outcome, ok, refuse, _>>=_, _>>_, check, _&&_, m
 use Rattle.spec.specs.Wire.{payloadOf}
 use Rattle.spec.specs.Layout.{Map, Placing, readRobots, placingOf}
 use Rattle.theory.specs.Basics.Lists.{getD-uniform}
-use Rattle.wire.specs.declared.Checked.{Checked}
-use Rattle.wire.specs.declared.Checked.the-variants.{Payload}
+use Rattle.checking.specs.declared.Checked.{Checked}
+use Rattle.checking.specs.declared.Checked.the-variants.{Payload}
 use Rattle.wire.specs.Payload.{placeOf}
-use Rattle.wire.specs.Checked.{checkedOf, Held, Whole}
+use Rattle.checking.specs.Checked.{checkedOf, Held, Whole}
 use Rattle.layout.specs.Fault.{not-both}
 use Rattle.layout.specs.Bytes.{held, held-size, held-payload, no-byte, a-byte}
 use Rattle.layout.specs.Table.{member-snoc, member-here, member-there}

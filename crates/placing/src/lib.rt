@@ -145,13 +145,13 @@ fn read_payload(file: &[u8], m: usize, n: usize) -> PlacingRead
 pub fn read_placing(file: &[u8], n: usize) -> PlacingRead
     ensures { λ r. ⌜ ((p : Map) → p .size ≡ n → PlacingIs (placingIn p (now (file .entry))) r) ⌝ }
 {
-    let checked = wire::check_file(file, 2, 1);
+    let checked = checking::check_file(file, 2, 1);
     let m = match checked {
-        wire::Checked::Payload(m) => m,
-        wire::Checked::Length => return refused(PlacingFault::Length),
-        wire::Checked::Checksum(i) => return refused(PlacingFault::Checksum(i)),
-        wire::Checked::Head(i) => return refused(PlacingFault::Head(i)),
-        wire::Checked::Fill(i) => return refused(PlacingFault::Fill(i)),
+        checking::Checked::Payload(m) => m,
+        checking::Checked::Length => return refused(PlacingFault::Length),
+        checking::Checked::Checksum(i) => return refused(PlacingFault::Checksum(i)),
+        checking::Checked::Head(i) => return refused(PlacingFault::Head(i)),
+        checking::Checked::Fill(i) => return refused(PlacingFault::Fill(i)),
     };
     read_payload(file, m, n)
 }

@@ -13,7 +13,7 @@ use Rattle.spec.specs.Arrangement.{Move, mv}
 use Rattle.spec.specs.State.{moveBytes, wordBytes}
 use Rattle.theory.specs.Codec.Words.{word-u16}
 use Rattle.wire.specs.Payload.{placeOf, wordAt, lt-or-ge}
-use Rattle.wire.specs.Sealed.{upTo, up-length, file-up}
+use Rattle.answers.specs.Sealed.{upTo, up-length, file-up}
 use Rattle.replay.specs.Moves.{moveBy, movesBy, bytesOf, fileBytes, moves-length, moves-next, moves-done}
 use Rattle.printing.specs.Text.{decimal, decimal-few, power, Put, put-none, put-one, put-then, put-as}
 use Rattle.printing.specs.Listing.{space, newline, field, lineOf, linesOf}

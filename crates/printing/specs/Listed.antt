@@ -21,7 +21,7 @@ use Rattle.theory.specs.Services.Sheets.{roundsSmall, sheetFits, sheet-length}
 use Rattle.theory.specs.Services.Answers.{payload-within}
 use Rattle.theory.specs.Terms.Services.{refuses, resolves, times}
 use Rattle.wire.specs.Payload.{placeOf, wordAt, lt-or-ge}
-use Rattle.wire.specs.Delivered.{file-length, fits-whole}
+use Rattle.answers.specs.Delivered.{file-length, fits-whole}
 use Rattle.replay.specs.Moves.{movesBy, bytesOf, fileBytes, moves-same}
 use Rattle.printing.specs.Listing.{newline, field, movesWord, listedMoves, textOf, movesText, refusedText, listingOf}
 use Rattle.printing.specs.Lines.{roundsBy, linesBy, file-byte, moves-of, rounds-of, rounds-same}

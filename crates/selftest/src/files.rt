@@ -11,7 +11,7 @@ pub fn hall_map(file: &mut [u8], n: u8) {
     let m = n as usize;
     let edges = put_edges(file, n);
     wire::put_word(file, 4 + m, edges);
-    wire::deliver(file, 1, 9, 6 + m + 2 * edges);
+    answers::deliver(file, 1, 9, 6 + m + 2 * edges);
 }
 
 // Lists the n vertices of the one zone.
@@ -48,13 +48,13 @@ pub fn at_goals(file: &mut [u8], k: u8) {
         wire::put_byte(file, 2 + 2 * (i as usize), i);
         i += 1;
     }
-    wire::deliver(file, 2, 1, 1 + 2 * (k as usize));
+    answers::deliver(file, 2, 1, 1 + 2 * (k as usize));
 }
 
 // A plan of no steps.
 pub fn no_steps(file: &mut [u8]) {
     wire::put_word(file, 0, 0);
-    wire::deliver(file, 3, 64, 2);
+    answers::deliver(file, 3, 64, 2);
 }
 
 // A map of three vertices: hall 0, stack 1, 2, edges 0-2 and 1-2.
@@ -65,7 +65,7 @@ pub fn stack_map(file: &mut [u8]) {
     wire::put_word(file, 9, 2);
     wire::put_byte(file, 11, 0);
     wire::put_three(file, 12, 2, 1, 2);
-    wire::deliver(file, 1, 9, 15);
+    answers::deliver(file, 1, 9, 15);
 }
 
 // How many bytes of two blocks differ.

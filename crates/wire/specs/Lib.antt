@@ -1,9 +1,3 @@
--- Block files: the meanings that the functions' contracts cite (Checked, Payload, Laid, Delivered), and the laws behind their proofs.
-pub mod Sum
-pub mod Block
+-- Payloads: the meanings that the functions' contracts cite, and the laws behind their proofs.
 pub mod Payload
-pub mod Checked
 pub mod Laid
-pub mod Made
-pub mod Sealed
-pub mod Delivered

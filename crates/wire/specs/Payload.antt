@@ -3,9 +3,9 @@ use Prim.Native.Nat.{ℕ, zero, suc, _+_, _-_, _*_, _/_, _%_, _≤_, _<_}
 use mathlib.Core.Path.{_≡_, refl, ap, sym, _∙_}
 use mathlib.Core.Logic.{_⊎_, inl, inr, ⊎-elim}
 use mathlib.Core.Bool.{Bool, true, false}
-use mathlib.Core.List.{List, [], _++_}
+use mathlib.Core.List.{List, [], _∷_, _++_}
 use lib.ListN.{length, getD, set, take, drop, length-append, length-drop, List·getD-append, List·getD-eq-default}
-use lib.Seq.{getD-drop, getD-take, getD-append-add, getD-set-same, getD-set-other, length-take-le, ext-getD}
+use lib.Seq.{take-nil, getD-drop, getD-take, getD-append-add, getD-set-same, getD-set-other, length-take-le, ext-getD}
 use lib.Dec.{ltb, lit<}
 use borrow.Author.Tests.{ltb-true, ltb-false}
 use borrow.Rule.Slice.PartMut.{putMid}
@@ -16,6 +16,13 @@ use Rattle.spec.specs.Wire.{word}
 use Rattle.spec.specs.Terms.{Bytes}
 use Rattle.wire.specs.declared.Three.{Three}
 use Rattle.wire.specs.declared.Four.{Four}
+
+-- a part of the front of a list
+pub drop-take : (m n : ℕ) (l : List ℕ) → drop m (take n l) ≡ take (n - m) (drop m l)
+drop-take zero n l = let e : n ≡ n - 0 = omega arith in ap (λ (k : ℕ). take k l) e
+drop-take (suc m) zero l = let e : 0 ≡ 0 - suc m = omega arith in ap (λ (k : ℕ). take k (drop (suc m) l)) e
+drop-take (suc m) (suc n) [] = sym (take-nil (suc n - suc m))
+drop-take (suc m) (suc n) (x ∷ l) = let e : n - m ≡ suc n - suc m = omega arith in drop-take m n l ∙ ap (λ (k : ℕ). take k (drop m l)) e
 
 -- the payload parts of the first k blocks
 unfoldable pub parts : List ℕ → ℕ → List ℕ

@@ -1,7 +1,7 @@
 use borrow.Author.Needs.{needs}
 use Prim.Native.Nat.{_-_}
 use mathlib.Core.Path.{refl, ap}
-use Rattle.wire.specs.Checked.{checkedOf}
+use Rattle.checking.specs.Checked.{checkedOf}
 use Rattle.placing.specs.declared.PlacingFault.the-variants.{Length, Checksum, Head, Fill}
 use Rattle.placing.specs.Placing.{placingIn, noPlacing, nothing-is, no-payload, a-payload, payload-bound}
 use Rattle.placing.proofs.read_placing.Statement.{statement}

@@ -1,6 +1,6 @@
 use native.Mathlib.Omega.{arith}
 use mathlib.Core.Path.{refl, sym}
-use Rattle.wire.specs.Checked.{held-as}
+use Rattle.checking.specs.Checked.{held-as}
 use Rattle.galzpuna.specs.Opened.{opened-yard, opened-file, opened-list, opened-all}
 use borrow.Author.Needs.{needs}
 use Rattle.galzpuna.proofs.files.open_list.Statement.{statement}
@@ -12,7 +12,7 @@ use Rattle.galzpuna.proofs.files.refused.Reads as refused-reads
 use Rattle.galzpuna.proofs.refusals.of_file.Reads as of-file-reads
 use Rattle.galzpuna.proofs.refusals.of_list.Reads as of-list-reads
 use Rattle.replay.proofs.check_moves.Reads as check-moves-reads
-use Rattle.wire.proofs.check_file.Reads as check-file-reads
+use Rattle.checking.proofs.check_file.Reads as check-file-reads
 
 read-yard-requires : tie.Need-read-yard-requires
 read-yard-requires c κs = (c .before .before .before .before .pre, refl)

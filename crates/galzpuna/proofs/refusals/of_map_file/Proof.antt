@@ -1,6 +1,6 @@
 use mathlib.Core.Path.{sym, ap}
 use native.Mathlib.Omega.{arith}
-use Rattle.wire.specs.Checked.{checkedOf}
+use Rattle.checking.specs.Checked.{checkedOf}
 use borrow.Author.Needs.{needs}
 use Rattle.galzpuna.proofs.refusals.of_map_file.Statement.{statement}
 use Rattle.galzpuna.proofs.refusals.of_map_file.Tie as tie

@@ -8,7 +8,7 @@ use Rattle.galzpuna.proofs.services.galzpuna_resolve.Reads as reads
 use Rattle.galzpuna.proofs.services.galzpuna_resolve.Lts as lts
 use Rattle.galzpuna.proofs.files.resolve_files.Reads as resolve-files-reads
 use Rattle.galzpuna.proofs.services.refuse.Reads as refuse-reads
-use Rattle.wire.proofs.deliver.Reads as deliver-reads
+use Rattle.answers.proofs.deliver.Reads as deliver-reads
 use Rattle.wire.proofs.put_word.Reads as put-word-reads
 
 resolve-files-requires : tie.Need-resolve-files-requires

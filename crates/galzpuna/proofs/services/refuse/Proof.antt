@@ -4,7 +4,7 @@ use Rattle.galzpuna.proofs.services.refuse.Statement.{statement}
 use Rattle.galzpuna.proofs.services.refuse.Tie as tie
 use Rattle.galzpuna.proofs.services.refuse.Reads as reads
 use Rattle.galzpuna.proofs.services.refuse.Lts as lts
-use Rattle.wire.proofs.zero.Reads as zero-reads
+use Rattle.answers.proofs.zero.Reads as zero-reads
 
 zero-requires : tie.Need-zero-requires
 zero-requires c κs = search needs

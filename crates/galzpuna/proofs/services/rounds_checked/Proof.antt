@@ -8,8 +8,8 @@ use Rattle.galzpuna.proofs.services.rounds_checked.Reads as reads
 use Rattle.galzpuna.proofs.services.rounds_checked.Lts as lts
 use Rattle.galzpuna.proofs.files.open_list.Reads as open-list-reads
 use Rattle.galzpuna.proofs.services.refuse.Reads as refuse-reads
-use Rattle.replay.proofs.write_rounds.Reads as write-rounds-reads
-use Rattle.wire.proofs.deliver.Reads as deliver-reads
+use Rattle.timing.proofs.write_rounds.Reads as write-rounds-reads
+use Rattle.answers.proofs.deliver.Reads as deliver-reads
 use Rattle.wire.proofs.put_word.Reads as put-word-reads
 
 open-list-requires : tie.Need-open-list-requires
