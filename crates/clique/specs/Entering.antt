@@ -7,12 +7,12 @@ use mathlib.Core.List.{List, [], _∷_, map}
 use native.Mathlib.Numerals.{add-one}
 use native.Mathlib.Omega.{arith}
 use native.Mathlib.Decide.{decLt, ℕ-discrete}
-use lib.ListN.{length, getD, set, drop, length-map, List·getD-eq-default}
+use lib.ListN.{length, getD, set, drop, length-set, length-map, List·getD-eq-default}
 use lib.Seq.{drop-cons, getD-set-other}
 use lib.Dec.{T, eqb}
-use borrow.Author.Tests.{eq-eqb, ne-eqb}
+use borrow.Author.Tests.{eq-eqb, ne-eqb, eqb-true}
 use Rattle.spec.specs.Outcome.{_&&_}
-use Rattle.spec.specs.Arrangement.{Arrangement, cell, lastFree}
+use Rattle.spec.specs.Arrangement.{Arrangement, cell, order, lastFree}
 use Rattle.spec.specs.Clique.{named, sameRobots, makeRoom, cliqueTo, cliqueCanEnter, cliqueEnter}
 use Rattle.spec.specs.State.{State, robotOn, cellOf, arrangementOf}
 use Rattle.theory.specs.Basics.Lists.{getD-map}
@@ -20,6 +20,7 @@ use Rattle.theory.specs.Basics.Tests.{of-true, of-false, and-right}
 use Rattle.theory.specs.Maps.Cells.{cell-of}
 use Rattle.theory.specs.Zones.Arrangements.{cell-inside}
 use Rattle.theory.specs.Zones.Robots.{same-robots}
+use Rattle.theory.specs.Zones.Crossing.{extraOf}
 use Rattle.motion.specs.Across.{arrangement-length, arrangement-at}
 use Rattle.motion.specs.Reading.{eqb-suc, cell-under}
 
@@ -74,6 +75,10 @@ named-cells [] j h = refl
 named-cells (x ∷ l) zero h = ap (λ (a : Arrangement). 0 ∷ a) (plain l (λ i. h (suc i) (λ q. omega arith)))
 named-cells (x ∷ l) (suc j) h =
     ap₂ (λ (c : ℕ) (a : Arrangement). c ∷ a) (cell-of (h 0 (λ q. omega arith))) (named-cells l j (λ i n. h (suc i) (λ q. n (omega arith))))
+
+-- a follow list has as many cells as names
+pub cells-named : (list : List ℕ) (j : ℕ) → length (set (map cellOf list) j 0) ≡ length list
+cells-named list j = length-set (map cellOf list) j 0 ∙ length-map list cellOf
 
 -- what a follow list names at a place
 pub named-at : (list : List ℕ) (j : ℕ) → j < length list → cell (named list) j ≡ suc (getD list j 0)
@@ -155,6 +160,23 @@ module _ (a : Arrangement) (r j behind : ℕ) (list : List ℕ) where
   pub enter-fill : (n : ℕ) → true ≡ lastFree a → n ≡ length a → cliqueTo (n * 2) a (set (named list) j 0) ≡ cliqueEnter a j list
   unfolding cliqueEnter
   enter-fill n d e = rw (← d, cliqueEnter, e)
+
+-- there is a follow list exactly where the clique is filled, and it has a name for each place
+pub extra-fill : (a : Arrangement) (n : ℕ) → n ≡ extraOf 3 a → 0 < n → (true ≡ lastFree a) × (n ≡ length a)
+unfolding _&&_
+extra-fill a n e h = pick (lastFree a) e
+  where
+    pick : (b : Bool) → n ≡ elim b [ true ↦ length a | false ↦ 0 ] → (true ≡ b) × (n ≡ length a)
+    pick true d = (refl, d)
+    pick false d = absurd (omega arith)
+
+pub extra-room : (a : Arrangement) (n : ℕ) → n ≡ extraOf 3 a → n ≤ 0 → false ≡ lastFree a
+unfolding _&&_ lastFree
+extra-room a n e h = pick (lastFree a) refl e
+  where
+    pick : (b : Bool) → lastFree a ≡ b → n ≡ elim b [ true ↦ length a | false ↦ 0 ] → false ≡ b
+    pick true d q = absurd (omega (arith, eqb-true (suc (length (order a))) (length a) d))
+    pick false d q = refl
 
 -- a list that was met names robots, so that `enter` may be called with it
 pub entered-numbered : (s : State) (vs : List ℕ) (r j behind : ℕ) (list : List ℕ)

@@ -3,6 +3,7 @@ pub mod Counts
 pub mod Places
 pub mod Leaving
 pub mod Toward
+pub mod Table
 pub mod Marks
 pub mod Comparing
 pub mod Entering

@@ -1,19 +1,22 @@
 -- The moves of a clique towards a given arrangement: one law for each way through the code.
 use mathlib.Core.Path.{_≡_, refl, ap, ap₂, sym, _∙_}
 use mathlib.Core.Logic.{_≢_, _⊎_, inl, inr}
-use mathlib.Core.Bool.{Bool, true, false}
-use Prim.Native.Nat.{ℕ, zero, suc, _+_, _-_, _<_, _≤_, min}
-use mathlib.Core.List.{List, [], _∷_}
+use mathlib.Core.Bool.{true, false}
+use Prim.Native.Nat.{ℕ, zero, suc, _+_, _-_, _%_, _<_, _≤_, min}
+use mathlib.Core.List.{[], _∷_}
 use native.Mathlib.Numerals.{add-one}
 use native.Mathlib.Omega.{arith}
 use native.Mathlib.Decide.{decLt, ℕ-discrete}
 use native.Mathlib.Nat.{not-suc-le-zero}
-use lib.ListN.{length, getD, set, drop, length-set, drop-of-length-le}
-use lib.Seq.{drop-cons, getD-set-same, getD-set-other}
-use lib.Dec.{eqb, ltb}
+use lib.ListN.{length, getD, set, take, drop, length-set, length-drop, drop-of-length-le}
+use lib.Seq.{drop-cons, getD-set-same, getD-set-other, getD-take, getD-drop, length-take-le}
+use lib.Dec.{eqb}
 use borrow.Author.Tests.{eq-eqb, ne-eqb, lt-ltb, le-ltb}
-use Rattle.spec.specs.Arrangement.{Arrangement, Move, mv, seek, cell, apply, lesser}
+use Rattle.spec.specs.Arrangement.{Arrangement, mv, seek, cell, apply, lesser}
 use Rattle.spec.specs.Clique.{openTarget, lowestOff, toPlace, cliqueTo}
+use Rattle.spec.specs.State.{cellOf}
+use Rattle.theory.specs.Maps.Cells.{cell-of, cell-none, cell-empty}
+use Rattle.theory.specs.Zones.Clique.Searches.{Gap, found, closed, gap-view}
 
 -- ---- two arrangements, place by place
 
@@ -53,6 +56,18 @@ open-none a g (inr e) = rw e
 open-none a [] (inl e) = refl
 open-none a (y ∷ g) (inl e) = rw e
 
+-- what stands in sixteen places from place i on, as the code takes them
+part-at : (a : Arrangement) (i j : ℕ) → j < 16 → getD (take (i + 16 - i) (drop i a)) j 0 ≡ getD a (i + j) 0
+part-at a i j h =
+    let e : i + 16 - i ≡ 16 = omega arith in
+    ap (λ (k : ℕ). getD (take k (drop i a)) j 0) e ∙ getD-take 16 (drop i a) j 0 h ∙ getD-drop i a j 0
+
+-- sixteen places from place i on are sixteen
+pub part-length : (a : Arrangement) (i : ℕ) → i + 16 ≤ length a → length (take (i + 16 - i) (drop i a)) ≡ 16
+part-length a i h =
+    let e : i + 16 - i ≡ 16 = omega arith in
+    ap (λ (k : ℕ). length (take k (drop i a))) e ∙ length-take-le 16 (drop i a) (omega (arith, length-drop i a))
+
 module _ (a g : Arrangement) where
   -- a search from place i on: found, one place further, at the end
   pub open-here : (i : ℕ) → i < min (length a) (length g) → 0 < getD g i 0 → getD a i 0 ≡ 0 → i ≡ i + openTarget (drop i a) (drop i g)
@@ -66,6 +81,20 @@ module _ (a g : Arrangement) where
 
   pub open-end : (i : ℕ) → min (length a) (length g) ≤ i → i ≡ i + openTarget (drop i a) (drop i g)
   open-end i h = omega (arith, open-none (drop i a) (drop i g) (one-empty a g i h))
+
+  -- none of k places from place i on is open
+  open-skip : (i k : ℕ) → i + k ≤ min (length a) (length g) → ((j : ℕ) → j < k → getD a (i + j) 0 ≡ 0 → getD g (i + j) 0 ≡ 0)
+      → i + k + openTarget (drop (i + k) a) (drop (i + k) g) ≡ i + openTarget (drop i a) (drop i g)
+  open-skip i zero h f = let e : i + 0 ≡ i = omega arith in rw e
+  open-skip i (suc k) h f =
+      let e : i + suc k ≡ i + k + 1 = omega arith in
+      rw e (open-further (i + k) (omega arith) (f k (omega arith)) ∙ open-skip i k (omega arith) (λ j x. f j (omega arith)))
+
+  -- none of the sixteen that the code takes is open
+  pub open-sixteen : (i n : ℕ) → i + 16 ≤ n → n ≤ length a → n ≤ length g
+      → ((j : ℕ) → j < 16 → getD (take (i + 16 - i) (drop i a)) j 0 ≡ 0 → getD (take (i + 16 - i) (drop i g)) j 0 ≡ 0)
+      → i + 16 + openTarget (drop (i + 16) a) (drop (i + 16) g) ≡ i + openTarget (drop i a) (drop i g)
+  open-sixteen i n h k l f = open-skip i 16 (omega arith) (λ j x d. sym (part-at g i j x) ∙ f j x (part-at a i j x ∙ d))
 
 -- ---- looking on from a place
 
@@ -103,6 +132,31 @@ open-moved a b g r i j k h l e =
         let t : cell (apply a (mv r i j)) p ≡ suc r = rw d (getD-set-same (set a i 0) j (suc r) 0 s) in
         absurd (omega arith)
     at p q (no d) z = sym (getD-set-other (set a i 0) j p (suc r) 0 d ∙ getD-set-other a i p 0 0 (λ c. omega arith)) ∙ z
+
+-- nor at the target that was taken
+pub open-taken : (a b g : Arrangement) (r i q k : ℕ) → q ≡ openTarget a g → q < length a → length g ≡ length a → k ≤ i → k ≤ q + 1
+    → b ≡ apply a (mv r i q) → openTarget b g ≡ k + openTarget (drop k b) (drop k g)
+open-taken a b g r i q k e h l u v d = pick (decLt q k)
+  where
+    long : length b ≡ length a
+    long = rw d (length-set (set a i 0) q (suc r) ∙ length-set a i 0)
+
+    taken : cell b q ≡ suc r
+    taken = rw d (getD-set-same (set a i 0) q (suc r) 0 (omega (arith, length-set a i 0)))
+
+    pick : Dec (q < k) → openTarget b g ≡ k + openTarget (drop k b) (drop k g)
+    pick (yes n) =
+        let w : k ≡ q + 1 = omega arith in
+        rw w (open-moved a b g r i q q (omega arith) (omega arith) d ∙ sym (open-further b g q (omega (arith, long)) (λ z. absurd (omega (arith, taken)))))
+    pick (no n) = open-moved a b g r i q k (omega arith) u d
+
+-- an open target is empty, and somebody's
+pub open-is : (a g : Arrangement) (q x : ℕ) → q ≡ openTarget a g → q < length a → length g ≡ length a → x ≡ cell g q → (cell a q ≡ 0) × (0 < x)
+open-is a g q x e h l d = at (rw (← e) at (gap-view a g (sym l)))
+  where
+    at : Gap a g q → (cell a q ≡ 0) × (0 < x)
+    at (found p c k z t) = (z, omega arith)
+    at (closed p k f) = absurd (omega arith)
 
 -- ---- the lowest robot off its target
 
@@ -148,6 +202,51 @@ pub off-lesser : (x y best : ℕ) → y ≢ 0 → x ≢ y → best ≢ 0 → min
 unfolding offNext lesser
 off-lesser x zero best z n e = absurd (z refl)
 off-lesser x (suc r) best z n e = rw (ne-eqb x (suc r) n, offNext, ne-eqb best 0 e, lesser)
+
+-- the robot off target of one place: nobody where it stands there, and the one before y where not
+pub off-on : (x y : ℕ) → x ≡ y → cellOf 255 ≡ offNext x y 0
+off-on x y e = cell-none refl ∙ off-there x y 0 e
+
+pub off-number : (x y r : ℕ) → x ≢ y → r < 256 → (r + 1) % 256 ≡ y → cellOf r ≡ offNext x y 0
+off-number x y r n h e = pick (ℕ-discrete r 255)
+  where
+    pick : Dec (r ≡ 255) → cellOf r ≡ offNext x y 0
+    pick (yes d) = cell-none d ∙ off-free x y 0 (omega arith)
+    pick (no d) = let z : suc r ≡ y = omega arith in cell-of d ∙ z ∙ off-first x y 0 (λ w. omega arith) n refl
+
+-- where the lower of two is nobody, the second is
+nobody-either : (r b : ℕ) → b < 256 → min r b ≡ 255 → b ≡ 255
+nobody-either r b h e = omega arith
+
+-- the cells of two robots are ordered as the robots
+suc-lower : (r b y c : ℕ) → suc r ≡ y → c ≡ suc b → suc (min r b) ≡ min y c
+suc-lower r b y c e d = omega arith
+
+-- the lower of two robots off target, where 255 is nobody
+pub off-lower : (x y r best z : ℕ) → r < 256 → best < 256 → cellOf r ≡ offNext x y 0 → z ≡ min r best → cellOf z ≡ offNext x y (cellOf best)
+off-lower x y r best z h k e m = rw m (pick (ℕ-discrete y 0) (ℕ-discrete x y))
+  where
+    nobody : offNext x y 0 ≡ 0 → offNext x y (cellOf best) ≡ cellOf best → cellOf (min r best) ≡ offNext x y (cellOf best)
+    nobody o p =
+        let w : r ≡ 255 = cell-empty r (e ∙ o) in
+        let q : min r best ≡ best = omega arith in
+        rw q (sym p)
+
+    somebody : y ≢ 0 → x ≢ y → Dec (best ≡ 255) → cellOf (min r best) ≡ offNext x y (cellOf best)
+    somebody u v (yes w) =
+        let q : min r best ≡ r = omega arith in
+        rw q (e ∙ ap (offNext x y) (sym (cell-none w)))
+    somebody u v (no w) =
+        let o : y ≡ offNext x y 0 = off-first x y 0 u v refl in
+        let s : r ≢ 255 = λ d. u (o ∙ sym e ∙ cell-none d) in
+        let t : suc r ≡ y = sym (cell-of s) ∙ e ∙ sym o in
+        let d : cellOf best ≡ suc best = cell-of w in
+        cell-of (λ j. w (nobody-either r best k j)) ∙ suc-lower r best y (cellOf best) t d ∙ off-lesser x y (cellOf best) u v (λ j. omega arith)
+
+    pick : Dec (y ≡ 0) → Dec (x ≡ y) → cellOf (min r best) ≡ offNext x y (cellOf best)
+    pick (yes d) c = nobody (sym (off-free x y 0 d)) (sym (off-free x y (cellOf best) d))
+    pick (no u) (yes d) = nobody (sym (off-there x y 0 d)) (sym (off-there x y (cellOf best) d))
+    pick (no u) (no v) = somebody u v (ℕ-discrete best 255)
 
 module _ (a g : Arrangement) where
   -- one place earlier, and before the first

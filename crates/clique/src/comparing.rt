@@ -27,7 +27,7 @@ fn count_cells(cells: &[u8]) -> usize
 }
 
 // A cell as its index in a table of 256.
-fn index_of(x: u8) -> usize
+pub fn index_of(x: u8) -> usize
     ensures { λ i. ⌜ (i ≡ x) × (x < 256) ⌝ }
 {
     x as usize

@@ -4,6 +4,7 @@ ghost use Prim.Native.Nat.{_≤_, _*_};
 ghost use lib.ListN.{length};
 ghost use Rattle.spec.specs.Clique.{cliqueCanEnd, cliqueEnd};
 ghost use Rattle.spec.specs.State.{arrangementOf, across};
+ghost use Rattle.spec.specs.Terms.{Distinct};
 ghost use Rattle.motion.specs.Tables.{onVertices};
 ghost use Rattle.motion.specs.World.{worldIn, madeAll};
 use crate::comparing::same_cells;
@@ -48,6 +49,7 @@ fn end_in(
     out: &mut [u8],
 ) -> usize
     requires { ⌜ (length (now zone) ≤ 128) × (length (now cells) ≡ length (now zone)) × (length (now goal) ≡ length (now zone)) ⌝ }
+    requires { ⌜ Distinct (arrangementOf (onVertices (now robots)) (now zone)) ⌝ }
     ensures { λ k. ⌜ worldIn (now (robots .exit)) (now (vertices .exit)) k (now (out .exit)) ≡ madeAll (worldIn (now (robots .entry)) (now (vertices .entry)) count (now (out .entry))) (across (now (zone .entry)) (cliqueEnd (arrangementOf (onVertices (now (robots .entry))) (now (zone .entry))) (arrangementOf (onVertices (now (goals .entry))) (now (zone .entry))))) ⌝ }
 {
     cells_of(robots, zone, cells);
@@ -56,7 +58,7 @@ fn end_in(
     go_toward(robots, vertices, count, zone, cells, goal, n, out)
 }
 
-// "Clique to a given arrangement", the goals'.
+// "Clique to a given arrangement", the goals', where no robot stands twice.
 pub fn bring_to_goals(
     robots: &mut [u8],
     vertices: &mut [u8],
@@ -66,6 +68,7 @@ pub fn bring_to_goals(
     out: &mut [u8],
 ) -> usize
     requires { ⌜ length (now zone) ≤ 128 ⌝ }
+    requires { ⌜ Distinct (arrangementOf (onVertices (now robots)) (now zone)) ⌝ }
     ensures { λ k. ⌜ worldIn (now (robots .exit)) (now (vertices .exit)) k (now (out .exit)) ≡ madeAll (worldIn (now (robots .entry)) (now (vertices .entry)) count (now (out .entry))) (across (now (zone .entry)) (cliqueEnd (arrangementOf (onVertices (now (robots .entry))) (now (zone .entry))) (arrangementOf (onVertices (now (goals .entry))) (now (zone .entry))))) ⌝ }
 {
     let n = zone.len();

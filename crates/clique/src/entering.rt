@@ -9,6 +9,8 @@ ghost use lib.Dec.{eqb};
 ghost use Rattle.spec.specs.Arrangement.{cell};
 ghost use Rattle.spec.specs.Clique.{named, sameRobots, cliqueTo, cliqueCanEnter, cliqueEnter};
 ghost use Rattle.spec.specs.State.{arrangementOf, across, cellOf};
+ghost use Rattle.spec.specs.Terms.{Distinct};
+ghost use Rattle.theory.specs.Zones.Crossing.{extraOf};
 ghost use Rattle.motion.specs.Tables.{onVertices};
 ghost use Rattle.motion.specs.World.{worldIn, madeAll};
 ghost use Rattle.motion.specs.Cells.{overlaid};
@@ -133,7 +135,8 @@ fn fill_in(
     goal: &mut [u8],
     out: &mut [u8],
 ) -> usize
-    requires { ⌜ (length (now zone) ≤ 128) × (length (now cells) ≡ length (now zone)) × (length (now goal) ≡ length (now list)) × Numbered (now list) j ⌝ }
+    requires { ⌜ (length (now zone) ≤ 128) × (length (now cells) ≡ length (now zone)) × (length (now goal) ≡ length (now list)) × (length (now list) ≡ length (now zone)) × Numbered (now list) j ⌝ }
+    requires { ⌜ Distinct (arrangementOf (onVertices (now robots)) (now zone)) ⌝ }
     ensures { λ k. ⌜ worldIn (now (robots .exit)) (now (vertices .exit)) k (now (out .exit)) ≡ madeAll (worldIn (now (robots .entry)) (now (vertices .entry)) count (now (out .entry))) (across (now (zone .entry)) (cliqueTo (length (now (zone .entry)) * 2) (arrangementOf (onVertices (now (robots .entry))) (now (zone .entry))) (set (named (now (list .entry))) j 0))) ⌝ }
 {
     cells_of(robots, zone, cells);
@@ -152,7 +155,8 @@ fn fill(
     list: &[u8],
     out: &mut [u8],
 ) -> usize
-    requires { ⌜ (length (now zone) ≤ 128) × (length (now list) ≤ 128) × Numbered (now list) j ⌝ }
+    requires { ⌜ (length (now zone) ≤ 128) × (length (now list) ≡ length (now zone)) × Numbered (now list) j ⌝ }
+    requires { ⌜ Distinct (arrangementOf (onVertices (now robots)) (now zone)) ⌝ }
     ensures { λ k. ⌜ worldIn (now (robots .exit)) (now (vertices .exit)) k (now (out .exit)) ≡ madeAll (worldIn (now (robots .entry)) (now (vertices .entry)) count (now (out .entry))) (across (now (zone .entry)) (cliqueTo (length (now (zone .entry)) * 2) (arrangementOf (onVertices (now (robots .entry))) (now (zone .entry))) (set (named (now (list .entry))) j 0))) ⌝ }
 {
     let n = zone.len();
@@ -173,6 +177,7 @@ fn fill(
 }
 
 // "Entering without filling: a cart on to goes to the earliest listed empty point. Filling: the carts inside go to the follow list's arrangement".
+// There is a follow list exactly where the clique is filled.
 pub fn enter(
     robots: &mut [u8],
     vertices: &mut [u8],
@@ -182,11 +187,11 @@ pub fn enter(
     list: &[u8],
     out: &mut [u8],
 ) -> usize
-    requires { ⌜ (length (now zone) ≤ 128) × (length (now list) ≤ 128) × Numbered (now list) j ⌝ }
+    requires { ⌜ (length (now zone) ≤ 128) × (length (now list) ≡ extraOf 3 (arrangementOf (onVertices (now robots)) (now zone))) × Numbered (now list) j ⌝ }
+    requires { ⌜ Distinct (arrangementOf (onVertices (now robots)) (now zone)) ⌝ }
     ensures { λ k. ⌜ worldIn (now (robots .exit)) (now (vertices .exit)) k (now (out .exit)) ≡ madeAll (worldIn (now (robots .entry)) (now (vertices .entry)) count (now (out .entry))) (across (now (zone .entry)) (cliqueEnter (arrangementOf (onVertices (now (robots .entry))) (now (zone .entry))) j (now (list .entry)))) ⌝ }
 {
-    let last = last_free(robots, zone);
-    if last {
+    if 0 < list.len() {
         return fill(robots, vertices, count, zone, j, list, out);
     }
     make_room(robots, vertices, count, zone, j, out)

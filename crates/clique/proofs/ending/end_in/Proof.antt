@@ -10,52 +10,46 @@ use Rattle.motion.specs.World.{worldIn, madeAll}
 use Rattle.motion.specs.Across.{arrangement-length}
 use Rattle.motion.specs.Cells.{overlaid-all}
 use Rattle.clique.specs.Comparing.{end-is}
+use Rattle.clique.specs.Table.{distinct-of}
+use native.Mathlib.Omega.{arith}
 use Rattle.spec.specs.Clique.{cliqueTo}
-use borrow.Author.Needs.{needs}
 use Rattle.clique.proofs.ending.end_in.Statement.{statement}
 use Rattle.clique.proofs.ending.end_in.Tie as tie
-use Rattle.clique.proofs.ending.end_in.Reads as reads
-use Rattle.clique.proofs.ending.end_in.Lts as lts
-use Rattle.clique.proofs.toward.go_toward.Reads as go-toward-reads
-use Rattle.motion.proofs.cells_of.Reads as cells-of-reads
 
--- src/ending.rt:53:5
 cells-of-requires : tie.Need-cells-of-requires
 cells-of-requires c κs = search needs
 
--- src/ending.rt:54:5
 cells-of-requires-2 : tie.Need-cells-of-requires-2
 cells-of-requires-2 c κs = search needs
 
--- src/ending.rt:55:13
 mul-n : tie.Need-mul-n
 mul-n c = search needs
 
--- src/ending.rt:56:5
 go-toward-requires : tie.Need-go-toward-requires
-go-toward-requires c κs = search needs
+go-toward-requires c κs =
+    let p = c .before .before .before .before .before .before .before .before .before .before .before .before .before .before .before .before .before .before .before .before .before .args in
+    let z = p .zone .now in
+    let s = onVertices (p .robots .now) in
+    let f = c .before .before .before .before .before .before .before .before .before .before .before .cells-of .ensures ∙ overlaid-all (arrangementOf s z) (p .cells .now) (arrangement-length s z ∙ sym (c .before .before .before .before .before .before .before .before .before .before .before .before .before .before .before .before .before .before .before .before .before .pre .0 .1)) in
+    let h = c .before .before .before .before .before .before .before .cells-of2 .ensures ∙ overlaid-all (arrangementOf (onVertices (p .goals .now)) z) (p .goal .now) (arrangement-length (onVertices (p .goals .now)) z ∙ sym (c .before .before .before .before .before .before .before .before .before .before .before .before .before .before .before .before .before .before .before .before .before .pre .0 .2)) in
+    let l = ap length f ∙ arrangement-length s z in
+    (omega (arith, l, c .before .before .before .before .before .before .before .before .before .before .before .before .before .before .before .before .before .before .before .before .before .pre .0 .0), ap length h ∙ arrangement-length (onVertices (p .goals .now)) z ∙ sym l, distinct-of f (c .before .before .before .before .before .before .before .before .before .before .before .before .before .before .before .before .before .before .before .before .before .pre .1))
 
--- src/ending.rt:40:1
 same-length : tie.Need-same-length
 same-length c = search needs
 
--- src/ending.rt:40:1
 same-length-2 : tie.Need-same-length-2
 same-length-2 c = search needs
 
--- src/ending.rt:40:1
 same-length-3 : tie.Need-same-length-3
 same-length-3 c = search needs
 
--- src/ending.rt:40:1
 same-length-4 : tie.Need-same-length-4
 same-length-4 c = search needs
 
--- src/ending.rt:40:1
 same-length-5 : tie.Need-same-length-5
 same-length-5 c = search needs
 
--- src/ending.rt:40:1
 returns : tie.Need-returns
 returns c =
     let p = c .before .before .before .before .before .before .before .before .before .before .before .before .before .before .before .before .before .before .before .before .before .before .before .before .before .before .before .before .before .before .args in
@@ -63,8 +57,8 @@ returns c =
     let s = onVertices (p .robots .now) in
     let a = arrangementOf s z in
     let g = arrangementOf (onVertices (p .goals .now)) z in
-    let f = c .before .before .before .before .before .before .before .before .before .before .before .before .before .before .before .before .before .before .before .before .cells-of .ensures ∙ overlaid-all a (p .cells .now) (arrangement-length s z ∙ sym (c .before .before .before .before .before .before .before .before .before .before .before .before .before .before .before .before .before .before .before .before .before .before .before .before .before .before .before .before .before .before .pre .1)) in
-    let h = c .before .before .before .before .before .before .before .before .before .before .before .before .before .before .before .before .cells-of2 .ensures ∙ overlaid-all g (p .goal .now) (arrangement-length (onVertices (p .goals .now)) z ∙ sym (c .before .before .before .before .before .before .before .before .before .before .before .before .before .before .before .before .before .before .before .before .before .before .before .before .before .before .before .before .before .before .pre .2)) in
+    let f = c .before .before .before .before .before .before .before .before .before .before .before .before .before .before .before .before .before .before .before .before .cells-of .ensures ∙ overlaid-all a (p .cells .now) (arrangement-length s z ∙ sym (c .before .before .before .before .before .before .before .before .before .before .before .before .before .before .before .before .before .before .before .before .before .before .before .before .before .before .before .before .before .before .pre .0 .1)) in
+    let h = c .before .before .before .before .before .before .before .before .before .before .before .before .before .before .before .before .cells-of2 .ensures ∙ overlaid-all g (p .goal .now) (arrangement-length (onVertices (p .goals .now)) z ∙ sym (c .before .before .before .before .before .before .before .before .before .before .before .before .before .before .before .before .before .before .before .before .before .before .before .before .before .before .before .before .before .before .pre .0 .2)) in
     c .before .before .before .before .before .before .before .before .go-toward .ensures
     ∙ ap (λ (ms : List Move). madeAll (worldIn (p .robots .now) (p .vertices .now) (p .count) (p .out .now)) (across z ms))
     (ap₂ (cliqueTo (length z * 2)) f h ∙ end-is a g (length z) (sym (arrangement-length s z)))

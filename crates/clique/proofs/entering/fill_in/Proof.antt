@@ -9,61 +9,54 @@ use Rattle.motion.specs.Tables.{onVertices}
 use Rattle.motion.specs.World.{worldIn, madeAll}
 use Rattle.motion.specs.Across.{arrangement-length}
 use Rattle.motion.specs.Cells.{overlaid-all}
-use Rattle.clique.specs.Entering.{named-cells}
+use Rattle.clique.specs.Entering.{named-cells, cells-named}
+use Rattle.clique.specs.Table.{distinct-of}
+use native.Mathlib.Omega.{arith}
 use Rattle.spec.specs.Clique.{cliqueTo}
-use borrow.Author.Needs.{needs}
 use Rattle.clique.proofs.entering.fill_in.Statement.{statement}
 use Rattle.clique.proofs.entering.fill_in.Tie as tie
-use Rattle.clique.proofs.entering.fill_in.Reads as reads
-use Rattle.clique.proofs.entering.fill_in.Lts as lts
-use Rattle.clique.proofs.entering.goal_cells.Reads as goal-cells-reads
-use Rattle.clique.proofs.toward.go_toward.Reads as go-toward-reads
-use Rattle.motion.proofs.cells_of.Reads as cells-of-reads
 
--- src/entering.rt:139:5
 cells-of-requires : tie.Need-cells-of-requires
 cells-of-requires c κs = search needs
 
--- src/entering.rt:140:5
 goal-cells-requires : tie.Need-goal-cells-requires
 goal-cells-requires c κs = search needs
 
--- src/entering.rt:141:13
 mul-n : tie.Need-mul-n
 mul-n c = search needs
 
--- src/entering.rt:142:5
 go-toward-requires : tie.Need-go-toward-requires
-go-toward-requires c κs = search needs
+go-toward-requires c κs =
+    let p = c .before .before .before .before .before .before .before .before .before .before .before .before .before .before .before .before .before .before .before .before .before .args in
+    let z = p .zone .now in
+    let s = onVertices (p .robots .now) in
+    let f = c .before .before .before .before .before .before .before .before .before .before .before .cells-of .ensures ∙ overlaid-all (arrangementOf s z) (p .cells .now) (arrangement-length s z ∙ sym (c .before .before .before .before .before .before .before .before .before .before .before .before .before .before .before .before .before .before .before .before .before .pre .0 .1)) in
+    let l = ap length f ∙ arrangement-length s z in
+    let m = ap length (c .before .before .before .before .before .before .before .goal-cells .ensures) ∙ cells-named (p .list .now) (p .j) in
+    (omega (arith, l, c .before .before .before .before .before .before .before .before .before .before .before .before .before .before .before .before .before .before .before .before .before .pre .0 .0), m ∙ c .before .before .before .before .before .before .before .before .before .before .before .before .before .before .before .before .before .before .before .before .before .pre .0 .3 ∙ sym l, distinct-of f (c .before .before .before .before .before .before .before .before .before .before .before .before .before .before .before .before .before .before .before .before .before .pre .1))
 
--- src/entering.rt:125:1
 same-length : tie.Need-same-length
 same-length c = search needs
 
--- src/entering.rt:125:1
 same-length-2 : tie.Need-same-length-2
 same-length-2 c = search needs
 
--- src/entering.rt:125:1
 same-length-3 : tie.Need-same-length-3
 same-length-3 c = search needs
 
--- src/entering.rt:125:1
 same-length-4 : tie.Need-same-length-4
 same-length-4 c = search needs
 
--- src/entering.rt:125:1
 same-length-5 : tie.Need-same-length-5
 same-length-5 c = search needs
 
--- src/entering.rt:125:1
 returns : tie.Need-returns
 returns c =
     let p = c .before .before .before .before .before .before .before .before .before .before .before .before .before .before .before .before .before .before .before .before .before .before .before .before .before .before .before .before .before .before .args in
     let z = p .zone .now in
     let s = onVertices (p .robots .now) in
-    let f = c .before .before .before .before .before .before .before .before .before .before .before .before .before .before .before .before .before .before .before .before .cells-of .ensures ∙ overlaid-all (arrangementOf s z) (p .cells .now) (arrangement-length s z ∙ sym (c .before .before .before .before .before .before .before .before .before .before .before .before .before .before .before .before .before .before .before .before .before .before .before .before .before .before .before .before .before .before .pre .1)) in
-    let h = c .before .before .before .before .before .before .before .before .before .before .before .before .before .before .before .before .goal-cells .ensures ∙ named-cells (p .list .now) (p .j) (c .before .before .before .before .before .before .before .before .before .before .before .before .before .before .before .before .before .before .before .before .before .before .before .before .before .before .before .before .before .before .pre .3) in
+    let f = c .before .before .before .before .before .before .before .before .before .before .before .before .before .before .before .before .before .before .before .before .cells-of .ensures ∙ overlaid-all (arrangementOf s z) (p .cells .now) (arrangement-length s z ∙ sym (c .before .before .before .before .before .before .before .before .before .before .before .before .before .before .before .before .before .before .before .before .before .before .before .before .before .before .before .before .before .before .pre .0 .1)) in
+    let h = c .before .before .before .before .before .before .before .before .before .before .before .before .before .before .before .before .goal-cells .ensures ∙ named-cells (p .list .now) (p .j) (c .before .before .before .before .before .before .before .before .before .before .before .before .before .before .before .before .before .before .before .before .before .before .before .before .before .before .before .before .before .before .pre .0 .4) in
     c .before .before .before .before .before .before .before .before .go-toward .ensures ∙ ap (λ (ms : List Move). madeAll (worldIn (p .robots .now) (p .vertices .now) (p .count) (p .out .now)) (across z ms)) (ap₂ (cliqueTo (length z * 2)) f h)
 
 pub fill-in-spec : {M : Type 1} → statement M

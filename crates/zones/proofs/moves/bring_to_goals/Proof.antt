@@ -6,22 +6,16 @@ use Rattle.spec.specs.Arrangement.{Move}
 use mathlib.Core.List.{List}
 use mathlib.Core.Path.{ap, _∙_}
 use borrow.Author.Needs.{needs}
-use borrow.Author.Needs.{needs}
 use Rattle.zones.proofs.moves.bring_to_goals.Statement.{statement}
 use Rattle.zones.proofs.moves.bring_to_goals.Tie as tie
-use Rattle.zones.proofs.moves.bring_to_goals.Reads as reads
-use Rattle.zones.proofs.moves.bring_to_goals.Lts as lts
-use Rattle.clique.proofs.bring_to_goals.Reads as bring-to-goals-reads
-use Rattle.hall.proofs.end.Reads as end-reads
-use Rattle.ring.proofs.end.Reads as end-reads′
 
 -- src/moves.rt:78:14
 bring-to-goals-requires : tie.Need-bring-to-goals-requires
-bring-to-goals-requires c κs = search needs
+bring-to-goals-requires c κs = (c .before .before .before .before .before .before .before .before .before .pre .0, c .before .before .before .before .before .before .before .before .before .pre .1 .1 .1 .once)
 
 -- src/moves.rt:79:14
 end-requires : tie.Need-end-requires
-end-requires c κs = (c .before .before .before .before .before .before .before .before .before .pre .0, (c .before .before .before .before .before .before .before .before .before .pre .1 .0, ring-can-end _ (c .before .before .before .match .keys2) _ _ ∙ c .before .before .before .before .before .before .before .before .before .pre .1 .1))
+end-requires c κs = (c .before .before .before .before .before .before .before .before .before .pre .0, (c .before .before .before .before .before .before .before .before .before .pre .1 .0, ring-can-end _ (c .before .before .before .match .keys2) _ _ ∙ c .before .before .before .before .before .before .before .before .before .pre .1 .1 .0))
 
 -- src/moves.rt:80:14
 end-requires-2 : tie.Need-end-requires-2

@@ -1,23 +1,24 @@
 use mathlib.Core.Path.{ap, _∙_}
 use mathlib.Core.List.{List}
+use Prim.Native.Nat.{ℕ}
+use Rattle.theory.specs.Zones.Crossing.{extraOf}
 use Rattle.spec.specs.Arrangement.{Move}
 use Rattle.spec.specs.State.{across, arrangementOf}
 use Rattle.motion.specs.Tables.{onVertices}
 use Rattle.motion.specs.World.{worldIn, madeAll}
 use Rattle.zones.specs.Kinds.{clique-enter, ring-enter, hall-enter}
 use borrow.Author.Needs.{needs}
-use borrow.Author.Needs.{needs}
 use Rattle.zones.proofs.moves.enter.Statement.{statement}
 use Rattle.zones.proofs.moves.enter.Tie as tie
-use Rattle.zones.proofs.moves.enter.Reads as reads
-use Rattle.zones.proofs.moves.enter.Lts as lts
-use Rattle.clique.proofs.enter.Reads as entering-enter-reads
-use Rattle.hall.proofs.enter.Reads as enter-reads
-use Rattle.ring.proofs.enter.Reads as enter-reads′
 
 -- src/moves.rt:56:14
 enter-requires : tie.Need-enter-requires
-enter-requires c κs = search needs
+enter-requires c κs =
+    let p = c .before .before .before .before .before .before .before .before .before .args in
+    let f = c .before .before .before .before .before .before .before .before .before .pre in
+    let e = f .1 .1 .1 .1 ∙ ap (λ (k : ℕ). extraOf k (arrangementOf (onVertices (p .robots .now)) (p .zone .now))) (c .before .before .before .match .keys1) in
+    let d = f .1 .1 .1 .0 .once in
+    search needs
 
 -- src/moves.rt:57:14
 enter-requires-2 : tie.Need-enter-requires-2
