@@ -5,6 +5,7 @@ ghost use Prim.Native.Nat.{_≤_, _<_};
 ghost use lib.ListN.{length};
 ghost use Rattle.spec.specs.State.{arrangementOf, across};
 ghost use Rattle.spec.specs.ZoneKind.{canLeave, canEnd};
+ghost use Rattle.theory.specs.Zones.Crossing.{Proper, extraOf};
 ghost use Rattle.motion.specs.Tables.{onVertices};
 ghost use Rattle.motion.specs.World.{worldIn, madeAll};
 ghost use Rattle.motion.specs.Coupling.{Listed};
@@ -50,6 +51,8 @@ pub fn enter(
     requires { ⌜ (length (now zone) ≤ 128) × (j < length (now zone)) × (length (now list) ≤ 128) ⌝ }
     requires { ⌜ Listed (length (now robots)) (now zone) ⌝ }
     requires { ⌜ Numbered (now list) j ⌝ }
+    requires { ⌜ Proper (arrangementOf (onVertices (now robots)) (now zone)) ⌝ }
+    requires { ⌜ length (now list) ≡ extraOf kind (arrangementOf (onVertices (now robots)) (now zone)) ⌝ }
     ensures { λ q. ⌜ worldIn (now (robots .exit)) (now (vertices .exit)) q (now (out .exit)) ≡ madeAll (worldIn (now (robots .entry)) (now (vertices .entry)) count (now (out .entry))) (across (now (zone .entry)) (enterMoves kind (arrangementOf (onVertices (now (robots .entry))) (now (zone .entry))) j behind (now (list .entry)))) ⌝ }
 {
     match kind {
@@ -72,6 +75,7 @@ pub fn bring_to_goals(
     requires { ⌜ length (now zone) ≤ 128 ⌝ }
     requires { ⌜ Listed (length (now robots)) (now zone) ⌝ }
     requires { ⌜ canEnd kind (arrangementOf (onVertices (now robots)) (now zone)) (arrangementOf (onVertices (now goals)) (now zone)) ≡ true ⌝ }
+    requires { ⌜ Proper (arrangementOf (onVertices (now robots)) (now zone)) ⌝ }
     ensures { λ q. ⌜ worldIn (now (robots .exit)) (now (vertices .exit)) q (now (out .exit)) ≡ madeAll (worldIn (now (robots .entry)) (now (vertices .entry)) count (now (out .entry))) (across (now (zone .entry)) (endMoves kind (arrangementOf (onVertices (now (robots .entry))) (now (zone .entry))) (arrangementOf (onVertices (now (goals .entry))) (now (zone .entry))))) ⌝ }
 {
     match kind {

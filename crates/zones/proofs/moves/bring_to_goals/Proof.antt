@@ -21,7 +21,7 @@ bring-to-goals-requires c κs = search needs
 
 -- src/moves.rt:79:14
 end-requires : tie.Need-end-requires
-end-requires c κs = (c .before .before .before .before .before .before .before .before .before .pre .0, (c .before .before .before .before .before .before .before .before .before .pre .1 .0, ring-can-end _ (c .before .before .before .match .keys2) _ _ ∙ c .before .before .before .before .before .before .before .before .before .pre .1 .1))
+end-requires c κs = (c .before .before .before .before .before .before .before .before .before .pre .0, (c .before .before .before .before .before .before .before .before .before .pre .1 .0, ring-can-end _ (c .before .before .before .match .keys2) _ _ ∙ c .before .before .before .before .before .before .before .before .before .pre .1 .1 .0))
 
 -- src/moves.rt:80:14
 end-requires-2 : tie.Need-end-requires-2
