@@ -106,6 +106,7 @@ pub record HasZone (first size listed : List ℕ) (z : ℕ) : Type 0 where
 pub record HasVertex (first size listed zone place : List ℕ) (v : ℕ) : Type 0 where
   pub below : v < 128
   pub inside : getD place v 0 < length (verticesAt first size listed zone v)
+  pub there : getD (verticesAt first size listed zone v) (getD place v 0) 0 ≡ v
   pub here : HasZone first size listed (getD zone v 0)
 
 module _ (m : Map) (n k : ℕ) (kind first size listed zone place : List ℕ) (rows : List (List ℕ)) (d : Given m n k kind first size listed zone place rows) where
@@ -161,6 +162,7 @@ module _ (m : Map) (n k : ℕ) (kind first size listed zone place : List ℕ) (r
     has-vertex = record {
       below = omega (arith, d .accepted .small, small);
       inside = rw (vertices-is, place-is) (d .accepted .placed v small .place);
+      there = rw (vertices-is, place-is) (d .accepted .placed v small .vertex);
       here = has-zone (getD zone v 0) in-range;
     }
 

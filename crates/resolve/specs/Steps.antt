@@ -2,7 +2,7 @@
 use mathlib.Core.Path.{_≡_, refl, sym, ap, _∙_}
 use mathlib.Core.Bool.{Bool, true, false}
 use mathlib.Core.List.{List, [], _∷_}
-use Prim.Native.Nat.{ℕ, _+_, _-_, _*_, _/_, _<_, _≤_}
+use Prim.Native.Nat.{ℕ, suc, _+_, _-_, _*_, _/_, _<_, _≤_}
 use native.Mathlib.Omega.{arith}
 use lib.ListN.{length, getD, take, drop}
 use lib.Dec.{eqb, eqb→eq}
@@ -10,23 +10,31 @@ use mathlib.Core.Logic.{⊎-elim}
 use types.Run.{OneOf}
 use Rattle.spec.specs.Outcome.{Outcome, ok, refuse, _&&_}
 use Rattle.spec.specs.Layout.{Map, zoneOf, zoneAt}
-use Rattle.spec.specs.Arrangement.{mv, lastFree}
-use Rattle.spec.specs.State.{State, arrangementOf, across}
-use Rattle.spec.specs.ZoneKind.{canLeave, canEnter}
+use Rattle.spec.specs.Arrangement.{mv, cell, lastFree}
+use Rattle.spec.specs.State.{State, robotOn, arrangementOf, across, movedAll}
+use Rattle.spec.specs.ZoneKind.{behindOf, canLeave, canEnter}
 use Rattle.spec.specs.Terms.{kindOf, placeOf, arrangementIn}
 use Rattle.theory.specs.Basics.Tests.{of-true, true-of, and-left, and-right}
-use Rattle.theory.specs.Zones.Crossing.{extraOf}
-use Rattle.theory.specs.Plans.Taken.{Taken}
-use Rattle.wire.specs.Payload.{payload, held-length, held-byte}
+use Rattle.theory.specs.Maps.Cells.{cell-of}
+use Rattle.theory.specs.Zones.Robots.{runs-named}
+use Rattle.theory.specs.Zones.Kinds.{laws}
+use Rattle.theory.specs.Zones.Crossing.{Proper, extraOf}
+use Rattle.theory.specs.Plans.Taken.{Taken, leaving}
+use Rattle.theory.specs.Plans.Step.{proper}
+use Rattle.wire.specs.Payload.{payload, FourAt, held-length, held-byte}
 use Rattle.wire.specs.Payload as wire
-use Rattle.motion.specs.World.{World, madeAll}
+use Rattle.wire.specs.declared.Four.{Four}
+use Rattle.motion.specs.World.{World, madeAll, made-none, state-is}
 use Rattle.motion.specs.World as world
+use Rattle.motion.specs.Across.{arrangement-length, across-nil}
+use Rattle.motion.specs.Reading.{robot-here, empty-here}
 use Rattle.clique.specs.Entering.{Numbered, numbered-none, entered-numbered}
 use Rattle.zones.specs.Kinds.{leaveMoves, enterMoves, clique-can-enter}
+use Rattle.zones.specs.Ready.{leave-ready, enter-ready}
 use Rattle.resolve.specs.Tests.{testOf, tests-passed, numbered, crosses, entryTests, stepTests, stepMoves, Passes, tests-number, tests-edge, tests-leave, tests-enter}
 use Rattle.resolve.specs.Given.{Given, Shown, Stepping, HasVertex, kindAt, verticesAt, has-vertex, kind-is, vertices-is, place-is, numbers-below}
 use Rattle.resolve.specs.Held.{heldPart, held-same, extra-most}
-use Rattle.resolve.specs.Walk.{step-made, Walking, WalkOf, walk-more, walk-refused}
+use Rattle.resolve.specs.Walk.{entered-kept, step-made, Walking, WalkOf, walk-more, walk-refused}
 use Rattle.resolve.specs.declared.StepTest.{StepTest}
 use Rattle.resolve.specs.declared.StepTest.the-variants as step
 use Rattle.resolve.specs.declared.PlanFault.{PlanFault}
@@ -96,6 +104,29 @@ module _ (m : Map) (n k : ℕ) (kind first size listed zone place : List ℕ) (r
 
 -- ---- the moves
 
+module _ (kind : ℕ) (s : State) (vs : List ℕ) (p : Proper (arrangementOf s vs)) (j : ℕ) (h : j < length vs) where
+  -- a place of the zone is one of its arrangement
+  placed : j < length (arrangementOf s vs)
+  placed = rw (arrangement-length s vs) h
+
+  -- who can leave is numbered below 255, which names none
+  leaver-small : (r : ℕ) → canLeave kind (arrangementOf s vs) r j ≡ true → r < 255
+  leaver-small r e = let x = laws kind .leaves (arrangementOf s vs) r j (p .once) placed (of-true e) in runs-named (x .1) (p .names) j r (x .2)
+
+  -- nothing is made where the leaver stands on its place already
+  pub left-ready : (r u : ℕ) (w : World) → getD vs j 0 ≡ u → canLeave kind (arrangementOf s vs) r j ≡ true → r ≡ robotOn s u
+      → w ≡ madeAll w (across vs (leaveMoves kind (arrangementOf s vs) r j))
+  left-ready r u w e l q =
+      let c : cell (arrangementOf s vs) j ≡ suc r = sym (robot-here s vs j r h (q ∙ ap (robotOn s) (sym e))) ∙ cell-of {r = r} (λ x. omega (arith, leaver-small r l)) in
+      made-none w _ (ap (across vs) (leave-ready kind (arrangementOf s vs) r j p c) ∙ across-nil vs)
+
+  -- nor where the place to enter is empty with the named robot behind it
+  pub entered-ready : (v behind : ℕ) (list : List ℕ) (w : World) → getD vs j 0 ≡ v → extraOf kind (arrangementOf s vs) ≡ 0 → 255 ≡ robotOn s v → behindOf kind (arrangementOf s vs) j ≡ behind
+      → w ≡ madeAll w (across vs (enterMoves kind (arrangementOf s vs) j behind list))
+  entered-ready v behind list w e x q b =
+      let c : cell (arrangementOf s vs) j ≡ 0 = empty-here s vs j 255 h (q ∙ ap (robotOn s) (sym e)) refl in
+      made-none w _ (ap (across vs) (enter-ready kind (arrangementOf s vs) j behind list p placed c b x) ∙ across-nil vs)
+
 -- an empty list names nobody
 numbered-empty : (list : List ℕ) (j : ℕ) → length list ≡ 0 → Numbered list j
 numbered-empty [] j h = numbered-none j
@@ -121,82 +152,126 @@ module _ (f : List ℕ) (o e : ℕ) (kind first size listed zone place : List �
   within : o + 4 + e ≤ st .len
   within = omega (arith, st .passes .long, held-length f (st .len) (st .most))
 
-  module _ (r u v behind : ℕ) (er : r ≡ getD f (wire.placeOf o) 0) (eu : u ≡ getD f (wire.placeOf (o + 1)) 0) (ev : v ≡ getD f (wire.placeOf (o + 2)) 0) (eb : behind ≡ getD f (wire.placeOf (o + 3)) 0) where
+  module _ (t : Four) (x : FourAt f o t) where
+    -- the robot, in the payload
+    robot-is : t .first ≡ getD (take (st .len) (payload f)) o 0
+    robot-is = byte-is f (st .len) o (t .first) (st .most) (omega (arith, within)) (x .first)
+
+    -- from
+    from-is : t .second ≡ getD (take (st .len) (payload f)) (o + 1) 0
+    from-is = byte-is f (st .len) (o + 1) (t .second) (st .most) (omega (arith, within)) (x .second)
+
+    -- to
+    to-is : t .third ≡ getD (take (st .len) (payload f)) (o + 2) 0
+    to-is = byte-is f (st .len) (o + 2) (t .third) (st .most) (omega (arith, within)) (x .third)
+
+    -- the robot behind it
+    behind-is : t .fourth ≡ getD (take (st .len) (payload f)) (o + 3) 0
+    behind-is = byte-is f (st .len) (o + 3) (t .fourth) (st .most) (omega (arith, within)) (x .fourth)
+
     -- it passed, by the bytes that the code read
-    taken : Taken (st .map) (st .k) s r u v behind (take e (drop (o + 4) (take (st .len) (payload f))))
-    taken =
-        let a : r ≡ getD (take (st .len) (payload f)) o 0 = byte-is f (st .len) o r (st .most) (omega (arith, within)) er in
-        let b : u ≡ getD (take (st .len) (payload f)) (o + 1) 0 = byte-is f (st .len) (o + 1) u (st .most) (omega (arith, within)) eu in
-        let c : v ≡ getD (take (st .len) (payload f)) (o + 2) 0 = byte-is f (st .len) (o + 2) v (st .most) (omega (arith, within)) ev in
-        let d : behind ≡ getD (take (st .len) (payload f)) (o + 3) 0 = byte-is f (st .len) (o + 3) behind (st .most) (omega (arith, within)) eb in
-        rw (a, b, c, d) (st .passes .taken)
+    taken : Taken (st .map) (st .k) s (t .first) (t .second) (t .third) (t .fourth) (take e (drop (o + 4) (take (st .len) (payload f))))
+    taken = rw (robot-is, from-is, to-is, behind-is) (st .passes .taken)
 
     -- from is a vertex
-    small-u : u < st .n
+    small-u : t .second < st .n
     small-u = omega (arith, taken .from, st .given .vertices)
 
     -- to is a vertex
-    small-v : v < st .n
+    small-v : t .third < st .n
     small-v = omega (arith, taken .to, st .given .vertices)
 
+    -- the kind of the zone that is left
+    kind-u : kindAt kind zone (t .second) ≡ kindOf (st .map) (zoneOf (st .map) (t .second))
+    kind-u = kind-is (st .map) (st .n) (st .k) kind first size listed zone place (st .rows) (st .given) (t .second) small-u
+
+    -- its vertices
+    vertices-u : verticesAt first size listed zone (t .second) ≡ zoneAt (st .map) (zoneOf (st .map) (t .second)) .vertices
+    vertices-u = vertices-is (st .map) (st .n) (st .k) kind first size listed zone place (st .rows) (st .given) (t .second) small-u
+
+    -- the place of from
+    place-u : getD place (t .second) 0 ≡ placeOf (st .map) (t .second)
+    place-u = place-is (st .map) (st .n) (st .k) kind first size listed zone place (st .rows) (st .given) (t .second) small-u
+
+    -- the kind of the zone that is entered
+    kind-v : kindAt kind zone (t .third) ≡ kindOf (st .map) (zoneOf (st .map) (t .third))
+    kind-v = kind-is (st .map) (st .n) (st .k) kind first size listed zone place (st .rows) (st .given) (t .third) small-v
+
+    -- its vertices
+    vertices-v : verticesAt first size listed zone (t .third) ≡ zoneAt (st .map) (zoneOf (st .map) (t .third)) .vertices
+    vertices-v = vertices-is (st .map) (st .n) (st .k) kind first size listed zone place (st .rows) (st .given) (t .third) small-v
+
+    -- the place of to
+    place-v : getD place (t .third) 0 ≡ placeOf (st .map) (t .third)
+    place-v = place-is (st .map) (st .n) (st .k) kind first size listed zone place (st .rows) (st .given) (t .third) small-v
+
     -- from is in the tables
-    pub stepping-from : HasVertex first size listed zone place u
-    stepping-from = has-vertex (st .map) (st .n) (st .k) kind first size listed zone place (st .rows) (st .given) u small-u
+    pub stepping-from : HasVertex first size listed zone place (t .second)
+    stepping-from = has-vertex (st .map) (st .n) (st .k) kind first size listed zone place (st .rows) (st .given) (t .second) small-u
 
     -- to as well
-    pub stepping-to : HasVertex first size listed zone place v
-    stepping-to = has-vertex (st .map) (st .n) (st .k) kind first size listed zone place (st .rows) (st .given) v small-v
+    pub stepping-to : HasVertex first size listed zone place (t .third)
+    stepping-to = has-vertex (st .map) (st .n) (st .k) kind first size listed zone place (st .rows) (st .given) (t .third) small-v
 
     -- the robot can leave
-    pub stepping-leaves : canLeave (kindAt kind zone u) (arrangementOf s (verticesAt first size listed zone u)) r (getD place u 0) ≡ true
-    stepping-leaves =
-        rw (
-          kind-is (st .map) (st .n) (st .k) kind first size listed zone place (st .rows) (st .given) u small-u,
-          vertices-is (st .map) (st .n) (st .k) kind first size listed zone place (st .rows) (st .given) u small-u,
-          place-is (st .map) (st .n) (st .k) kind first size listed zone place (st .rows) (st .given) u small-u,
-        )
-        (true-of (taken .leaves))
+    pub stepping-leaves : canLeave (kindAt kind zone (t .second)) (arrangementOf s (verticesAt first size listed zone (t .second))) (t .first) (getD place (t .second) 0) ≡ true
+    stepping-leaves = rw (kind-u, vertices-u, place-u) (true-of (taken .leaves))
+
+    -- the zone that is left is in a proper arrangement
+    pub stepping-proper : Proper (arrangementOf s (verticesAt first size listed zone (t .second)))
+    stepping-proper = rw vertices-u (proper (st .map) (st .given .accepted) (st .k) (st .given .few) s (st .consistent) (zoneOf (st .map) (t .second)) (st .given .accepted .placed (t .second) (taken .from) .zone))
 
     -- the length of the follow list
-    extra : e ≡ extraOf (kindOf (st .map) (zoneOf (st .map) v)) (arrangementIn (st .map) s (zoneOf (st .map) v))
-    extra = let c : v ≡ getD (take (st .len) (payload f)) (o + 2) 0 = byte-is f (st .len) (o + 2) v (st .most) (omega (arith, within)) ev in rw c (st .passes .extra)
+    extra : e ≡ extraOf (kindOf (st .map) (zoneOf (st .map) (t .third))) (arrangementIn (st .map) s (zoneOf (st .map) (t .third)))
+    extra = rw to-is (st .passes .extra)
 
     -- the follow list is no longer than a zone
     pub stepping-short : e ≤ 128
     stepping-short = omega (
       arith,
       extra,
-      extra-most (kindOf (st .map) (zoneOf (st .map) v)) s (zoneAt (st .map) (zoneOf (st .map) v) .vertices),
-      ap length (vertices-is (st .map) (st .n) (st .k) kind first size listed zone place (st .rows) (st .given) v small-v),
+      extra-most (kindOf (st .map) (zoneOf (st .map) (t .third))) s (zoneAt (st .map) (zoneOf (st .map) (t .third)) .vertices),
+      ap length vertices-v,
       stepping-to .here .long,
     )
 
     -- and names robots
-    pub stepping-named : Numbered (heldPart f (o + 4 + e) (o + 4) e) (getD place v 0)
+    pub stepping-named : Numbered (heldPart f (o + 4 + e) (o + 4) e) (getD place (t .third) 0)
     stepping-named =
-        rw (held-same f (st .len) (o + 4) e (st .most) within, place-is (st .map) (st .n) (st .k) kind first size listed zone place (st .rows) (st .given) v small-v)
-        (met-numbered (kindOf (st .map) (zoneOf (st .map) v)) s (zoneAt (st .map) (zoneOf (st .map) v) .vertices) r (placeOf (st .map) v) behind _ (true-of (taken .enters)) (taken .listed))
+        rw (held-same f (st .len) (o + 4) e (st .most) within, place-v)
+        (met-numbered (kindOf (st .map) (zoneOf (st .map) (t .third))) s (zoneAt (st .map) (zoneOf (st .map) (t .third)) .vertices) (t .first) (placeOf (st .map) (t .third)) (t .fourth) _ (true-of (taken .enters)) (taken .listed))
 
-    -- leaving, entering and crossing are the step's moves
-    pub stepping-made : st .k ≤ 64 → (w a b c : World) → w .state ≡ s
-        → a ≡ madeAll w (across (verticesAt first size listed zone u) (leaveMoves (kindAt kind zone u) (arrangementOf s (verticesAt first size listed zone u)) r (getD place u 0)))
-        → b ≡ madeAll a (across (verticesAt first size listed zone v) (enterMoves (kindAt kind zone v) (arrangementOf (a .state) (verticesAt first size listed zone v)) (getD place v 0) behind (heldPart f (o + 4 + e) (o + 4) e)))
-        → c ≡ world.made b (mv r u v)
-        → c ≡ madeAll w (stepMoves (st .map) (take (st .len) (payload f)) o e s)
-    stepping-made few w a b c es ea eb′ ec =
-        let k1 = kind-is (st .map) (st .n) (st .k) kind first size listed zone place (st .rows) (st .given) u small-u in
-        let v1 = vertices-is (st .map) (st .n) (st .k) kind first size listed zone place (st .rows) (st .given) u small-u in
-        let p1 = place-is (st .map) (st .n) (st .k) kind first size listed zone place (st .rows) (st .given) u small-u in
-        let k2 = kind-is (st .map) (st .n) (st .k) kind first size listed zone place (st .rows) (st .given) v small-v in
-        let v2 = vertices-is (st .map) (st .n) (st .k) kind first size listed zone place (st .rows) (st .given) v small-v in
-        let p2 = place-is (st .map) (st .n) (st .k) kind first size listed zone place (st .rows) (st .given) v small-v in
-        let hs = held-same f (st .len) (o + 4) e (st .most) within in
-        let q1 : r ≡ getD (take (st .len) (payload f)) o 0 = byte-is f (st .len) o r (st .most) (omega (arith, within)) er in
-        let q2 : u ≡ getD (take (st .len) (payload f)) (o + 1) 0 = byte-is f (st .len) (o + 1) u (st .most) (omega (arith, within)) eu in
-        let q3 : v ≡ getD (take (st .len) (payload f)) (o + 2) 0 = byte-is f (st .len) (o + 2) v (st .most) (omega (arith, within)) ev in
-        let q4 : behind ≡ getD (take (st .len) (payload f)) (o + 3) 0 = byte-is f (st .len) (o + 3) behind (st .most) (omega (arith, within)) eb in
-        rw (← q1, ← q2, ← q3, ← q4)
-        (step-made (st .map) (st .given .accepted) (st .k) few s (st .consistent) r u v behind _ taken w a b c es (rw (k1, v1, p1) at ea) (rw (k2, v2, p2, hs) at eb′) ec)
+    -- leaving leads from one world to another
+    module _ (w a : World) (es : w .state ≡ s)
+        (ea : a ≡ madeAll w (across (verticesAt first size listed zone (t .second)) (leaveMoves (kindAt kind zone (t .second)) (arrangementOf s (verticesAt first size listed zone (t .second))) (t .first) (getD place (t .second) 0)))) where
+      -- the same, by the map
+      left-is : a ≡ madeAll w (leaving (st .map) s (t .first) (t .second))
+      left-is = rw (kind-u, vertices-u, place-u) at ea
+
+      -- the zone that is entered is still as it was
+      still : arrangementIn (st .map) (a .state) (zoneOf (st .map) (t .third)) ≡ arrangementIn (st .map) s (zoneOf (st .map) (t .third))
+      still =
+          ap (λ (y : World). arrangementIn (st .map) (y .state) (zoneOf (st .map) (t .third))) left-is
+          ∙ ap (λ (y : State). arrangementIn (st .map) y (zoneOf (st .map) (t .third))) (state-is w (leaving (st .map) s (t .first) (t .second)) ∙ ap (λ (y : State). movedAll y (leaving (st .map) s (t .first) (t .second))) es)
+          ∙ entered-kept (st .map) (st .given .accepted) (st .k) (st .given .few) s (st .consistent) (t .first) (t .second) (t .third) (t .fourth) _ taken
+
+      -- so it is in a proper arrangement
+      pub stepping-room-proper : Proper (arrangementOf (a .state) (verticesAt first size listed zone (t .third)))
+      stepping-room-proper = rw (vertices-v, still) (proper (st .map) (st .given .accepted) (st .k) (st .given .few) s (st .consistent) (zoneOf (st .map) (t .third)) (st .given .accepted .placed (t .third) (taken .to) .zone))
+
+      -- and the follow list is as long as it says
+      pub stepping-extra : e ≡ extraOf (kindAt kind zone (t .third)) (arrangementOf (a .state) (verticesAt first size listed zone (t .third)))
+      stepping-extra = rw (kind-v, vertices-v, still) extra
+
+      -- leaving, entering and crossing are the step's moves
+      pub stepping-made : (b c : World)
+          → b ≡ madeAll a (across (verticesAt first size listed zone (t .third)) (enterMoves (kindAt kind zone (t .third)) (arrangementOf (a .state) (verticesAt first size listed zone (t .third))) (getD place (t .third) 0) (t .fourth) (heldPart f (o + 4 + e) (o + 4) e)))
+          → c ≡ world.made b (mv (t .first) (t .second) (t .third))
+          → c ≡ madeAll w (stepMoves (st .map) (take (st .len) (payload f)) o e s)
+      stepping-made b c eb ec =
+          let hs = held-same f (st .len) (o + 4) e (st .most) within in
+          rw (← robot-is, ← from-is, ← to-is, ← behind-is)
+          (step-made (st .map) (st .given .accepted) (st .k) (st .given .few) s (st .consistent) (t .first) (t .second) (t .third) (t .fourth) _ taken w a b c es left-is (rw (kind-v, vertices-v, place-v, hs) at eb) ec)
 
 -- ---- a walk's steps
 

@@ -11,6 +11,7 @@ ghost use Rattle.spec.specs.ZoneKind.{canEnd};
 ghost use Rattle.spec.specs.Run.{goalsFrom, endingsFrom};
 ghost use Rattle.spec.specs.Terms.{zoneCount};
 ghost use Rattle.theory.specs.Maps.Consistent.{Consistent};
+ghost use Rattle.theory.specs.Zones.Crossing.{Proper};
 ghost use Rattle.motion.specs.Tables.{tabled, onVertices};
 ghost use Rattle.motion.specs.World.{worldIn, madeAll};
 ghost use Rattle.zones.specs.Kinds.{endMoves};
@@ -78,6 +79,7 @@ fn end_zone<'a>(
     requires { ⌜ HasZone (now first) (now size) (now listed) z ⌝ }
     requires { ⌜ canEnd (getD (now kind) z 0) (arrangementOf (tabled (now robots) (now vertices)) (verticesIn (now first) (now size) (now listed) z)) (arrangementOf (onVertices (now goals)) (verticesIn (now first) (now size) (now listed) z)) ≡ true ⌝ }
     requires { ⌜ length (now robots) ≡ 128 ⌝ }
+    requires { ⌜ Proper (arrangementOf (tabled (now robots) (now vertices)) (verticesIn (now first) (now size) (now listed) z)) ⌝ }
     ensures { λ q. ⌜ worldIn (now (robots .exit)) (now (vertices .exit)) q (now (out .exit)) ≡ madeAll (worldIn (now (robots .entry)) (now (vertices .entry)) count (now (out .entry))) (across (verticesIn (now (first .entry)) (now (size .entry)) (now (listed .entry)) z) (endMoves (getD (now (kind .entry)) z 0) (arrangementOf (tabled (now (robots .entry)) (now (vertices .entry))) (verticesIn (now (first .entry)) (now (size .entry)) (now (listed .entry)) z)) (arrangementOf (onVertices (now (goals .entry))) (verticesIn (now (first .entry)) (now (size .entry)) (now (listed .entry)) z)))) ⌝ }
 {
     let a = first[z] as usize;

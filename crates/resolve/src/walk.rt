@@ -82,12 +82,14 @@ pub fn walk<'a>(
         match t {
             StepTest::Passed(e) => {
                 let next = o + 4 + e;
+                let four = wire::payload_four(file, o);
                 made = make_step(
                     robots,
                     vertices,
                     made,
                     file,
                     o,
+                    four,
                     e,
                     kind,
                     first,

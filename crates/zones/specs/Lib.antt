@@ -1,3 +1,4 @@
--- The definitions by kind, kind by kind, and the tables that a map is read into.
+-- The definitions by kind, kind by kind, the zones that are ready for a step, and the tables that a map is read into.
 pub mod Kinds
+pub mod Ready
 pub mod Tables

@@ -56,8 +56,9 @@ part-bring-to-goals-end c = search needs
 bring-to-goals-requires : tie.Need-bring-to-goals-requires
 unfolding arrangementOf
 bring-to-goals-requires c κs =
-    let a = c .before .before .before .before .before .before .before .before .before .before .before .before .args in
-    (rw (part (getD (a .first .now) (a .z) 0) (getD (a .size .now) (a .z) 0) (a .listed .now)) (c .before .before .before .before .before .before .before .before .before .before .before .before .pre .0 .long), (rw (part (getD (a .first .now) (a .z) 0) (getD (a .size .now) (a .z) 0) (a .listed .now), c .before .before .before .before .before .before .before .before .before .before .before .before .pre .1 .1) (c .before .before .before .before .before .before .before .before .before .before .before .before .pre .0 .once), rw (part (getD (a .first .now) (a .z) 0) (getD (a .size .now) (a .z) 0) (a .listed .now)) (c .before .before .before .before .before .before .before .before .before .before .before .before .pre .1 .0)))
+    let s = c .before .before .before .before .before .before .before .before .before .before .before .before in
+    let a = s .args in
+    (rw (part (getD (a .first .now) (a .z) 0) (getD (a .size .now) (a .z) 0) (a .listed .now)) (s .pre .0 .long), (rw (part (getD (a .first .now) (a .z) 0) (getD (a .size .now) (a .z) 0) (a .listed .now), s .pre .1 .1 .0) (s .pre .0 .once), (rw (part (getD (a .first .now) (a .z) 0) (getD (a .size .now) (a .z) 0) (a .listed .now)) (s .pre .1 .0), rw (part (getD (a .first .now) (a .z) 0) (getD (a .size .now) (a .z) 0) (a .listed .now)) (s .pre .1 .1 .1))))
 
 -- src/ending.rt:66:1
 same-length : tie.Need-same-length

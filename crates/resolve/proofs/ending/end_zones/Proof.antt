@@ -1,6 +1,7 @@
 use Rattle.resolve.specs.Endings.{Ending, ending-start, ending-can, ending-next, ending-end}
 use Rattle.resolve.specs.Given.{Given, has-zone, ends-is, end-moves-is}
 use Rattle.theory.specs.Maps.Consistent.{Consistent}
+use Rattle.theory.specs.Plans.Step.{proper}
 use Rattle.spec.specs.Terms.{zoneCount}
 use Rattle.spec.specs.Run.{goalsFrom}
 use Rattle.spec.specs.Layout.{Map}
@@ -46,7 +47,10 @@ end-zone-requires c κs =
       (
         ends-is (b .map) (b .n) (b .k) (a .kind .now) (a .first .now) (a .size .now) (a .listed .now) (b .zone) (b .place) (b .rows) (b .given) (l .z) t (tabled (l .robots) (l .vertices)) (onVertices (a .goals .now))
             ∙ ending-can (b .map) (b .given .accepted) (b .k) (b .given .few) (tabled (a .robots .now) (a .vertices .now)) (onVertices (a .goals .now)) (b .consistent) (c .before .before .before .before .before .before .before .before .before .before .pre .pass) (worldIn (a .robots .now) (a .vertices .now) (a .count) (a .out .now)) (l .z) (worldIn (l .robots) (l .vertices) (l .made) (l .out)) g t,
-        l .inv .3 ∙ b .consistent .rooms,
+        (
+          l .inv .3 ∙ b .consistent .rooms,
+          rw (← b .given .tables .vertices (l .z) t) (proper (b .map) (b .given .accepted) (b .k) (b .given .few) (tabled (l .robots) (l .vertices)) (g .consistent) (l .z) t),
+        ),
       ),
     )
 

@@ -3,12 +3,11 @@ use Rattle.zones.specs.Kinds.{enterMoves}
 use Rattle.motion.specs.World.{worldIn, madeAll}
 use Rattle.spec.specs.State.{across}
 use Rattle.spec.specs.State.{arrangementOf}
-use Rattle.motion.specs.Tables.{tabled, onVertices}
+use Rattle.motion.specs.Tables.{tabled}
 use lib.ListN.{length}
-use Prim.Native.Nat.{ℕ, _+_, _-_}
+use Prim.Native.Nat.{ℕ, _+_}
 use mathlib.Core.List.{List}
 use mathlib.Core.Path.{ap, _∙_}
-use borrow.Author.Needs.{needs}
 use borrow.Author.Needs.{needs}
 use Rattle.resolve.proofs.step.enter_in.Statement.{statement}
 use Rattle.resolve.proofs.step.enter_in.Tie as tie
@@ -23,10 +22,12 @@ copy-list-requires c κs = search needs
 
 -- src/step.rt:80:5
 enter-requires : tie.Need-enter-requires
+unfolding arrangementOf
 enter-requires c κs =
-    let a = c .before .before .before .before .before .before .before .before .before .before .before .before .before .before .args in
-    let e = c .before .before .before .before .before .before .copy-list .ensures (a .from + length (a .list .now)) (c .before .before .before .before .before .before .before .before .before .before .before .before .before .before .pre .0 .3) (le-refl _) in
-    ((c .before .before .before .before .before .before .before .before .before .before .before .before .before .before .pre .0 .0, c .before .before .before .before .before .before .before .before .before .before .before .before .before .before .pre .0 .1, search needs), (c .before .before .before .before .before .before .before .before .before .before .before .before .before .before .pre .1 .0, rw e (c .before .before .before .before .before .before .before .before .before .before .before .before .before .before .pre .1 .1)))
+    let s = c .before .before .before .before .before .before .before .before .before .before .before .before .before .before in
+    let a = s .args in
+    let e = c .before .before .before .before .before .before .copy-list .ensures (a .from + length (a .list .now)) (s .pre .0 .3) (le-refl _) in
+    ((s .pre .0 .0, s .pre .0 .1, search needs), (s .pre .1 .0, (rw e (s .pre .1 .1 .0), (s .pre .1 .1 .1 .0, search (needs, s .pre .1 .1 .1 .1)))))
 
 -- src/step.rt:61:1
 same-length : tie.Need-same-length

@@ -22,6 +22,7 @@ use Rattle.resolve.proofs.walk.walk.Lts as lts
 use Rattle.resolve.proofs.step.make_step.Reads as make-step-reads
 use Rattle.resolve.proofs.tests.test_step.Reads as test-step-reads
 use Rattle.resolve.proofs.walk.refusal_of.Reads as refusal-of-reads
+use Rattle.wire.proofs.payload_four.Reads as payload-four-reads
 
 abbrev Inv-loop : tie.InvT-loop
 Inv-loop file len count kind first size listed zone place rows n k robots₀ vertices₀ out₀ made₀ o₀ i₀ robots vertices out made o i =
@@ -93,19 +94,30 @@ add-next-2 c =
     let x = stepping-room (a .file .now) (l .o) _ (a .kind .now) (a .first .now) (a .size .now) (a .listed .now) (a .zone .now) (a .place .now) (tabled (l .robots) (l .vertices)) (walking-step m (a .n) (a .k) (a .kind .now) (a .first .now) (a .size .now) (a .listed .now) (a .zone .now) (a .place .now) (a .rows .now) d (a .file .now) (a .len) (c .before .before .before .before .before .before .before .before .before .before .before .before .before .pre .0 .0) (a .count) (worldIn (a .robots .now) (a .vertices .now) 0 (a .out .now)) (l .i) (l .o) (worldIn (l .robots) (l .vertices) (l .made) (l .out)) g (c .before .before .before .test-step .result) (c .before .before .before .test-step .ensures m d (l .i) ∙ tests-alone m (a .k) (take (a .len) (payload (a .file .now))) (l .i) (l .o) (l .robots) (l .vertices)) _ (c .before .t .given .1)) in
     search needs
 
+-- src/walk.rt:85:28
+payload-four-requires : tie.Need-payload-four-requires Inv-loop μ-loop
+payload-four-requires c κs =
+    let a = c .before .before .before .before .before .before .before .before .before .before .before .before .before .args in
+    let l = c .before .before .before .before .before .before .before .loop in
+    let m = c .before .before .before .before .before .before .before .before .before .before .before .before .before .pre .1 .map in
+    let d = c .before .before .before .before .before .before .before .before .before .before .before .before .before .pre .1 .given in
+    let g = l .inv .2 m d (c .before .before .before .before .before .before .before .before .before .before .before .before .before .pre .1 .consistent) in
+    let x = stepping-room (a .file .now) (l .o) _ (a .kind .now) (a .first .now) (a .size .now) (a .listed .now) (a .zone .now) (a .place .now) (tabled (l .robots) (l .vertices)) (walking-step m (a .n) (a .k) (a .kind .now) (a .first .now) (a .size .now) (a .listed .now) (a .zone .now) (a .place .now) (a .rows .now) d (a .file .now) (a .len) (c .before .before .before .before .before .before .before .before .before .before .before .before .before .pre .0 .0) (a .count) (worldIn (a .robots .now) (a .vertices .now) 0 (a .out .now)) (l .i) (l .o) (worldIn (l .robots) (l .vertices) (l .made) (l .out)) g (c .before .before .before .test-step .result) (c .before .before .before .test-step .ensures m d (l .i) ∙ tests-alone m (a .k) (take (a .len) (payload (a .file .now))) (l .i) (l .o) (l .robots) (l .vertices)) _ (c .before .t .given .1)) in
+    search needs
+
 -- src/walk.rt:85:17
 make-step-requires : tie.Need-make-step-requires Inv-loop μ-loop
 make-step-requires c κs =
-    let a = c .before .before .before .before .before .before .before .before .before .before .before .before .before .before .before .before .args in
-    let l = c .before .before .before .before .before .before .before .before .before .before .loop in
-    let m = c .before .before .before .before .before .before .before .before .before .before .before .before .before .before .before .before .pre .1 .map in
-    let d = c .before .before .before .before .before .before .before .before .before .before .before .before .before .before .before .before .pre .1 .given in
-    let g = l .inv .2 m d (c .before .before .before .before .before .before .before .before .before .before .before .before .before .before .before .before .pre .1 .consistent) in
-    walking-step m (a .n) (a .k) (a .kind .now) (a .first .now) (a .size .now) (a .listed .now) (a .zone .now) (a .place .now) (a .rows .now) d (a .file .now) (a .len) (c .before .before .before .before .before .before .before .before .before .before .before .before .before .before .before .before .pre .0 .0) (a .count) (worldIn (a .robots .now) (a .vertices .now) 0 (a .out .now)) (l .i) (l .o) (worldIn (l .robots) (l .vertices) (l .made) (l .out)) g (c .before .before .before .before .before .before .test-step .result) (c .before .before .before .before .before .before .test-step .ensures m d (l .i) ∙ tests-alone m (a .k) (take (a .len) (payload (a .file .now))) (l .i) (l .o) (l .robots) (l .vertices)) _ (c .before .before .before .before .t .given .1)
+    let a = c .before .before .before .before .before .before .before .before .before .before .before .before .before .before .before .before .before .args in
+    let l = c .before .before .before .before .before .before .before .before .before .before .before .loop in
+    let m = c .before .before .before .before .before .before .before .before .before .before .before .before .before .before .before .before .before .pre .1 .map in
+    let d = c .before .before .before .before .before .before .before .before .before .before .before .before .before .before .before .before .before .pre .1 .given in
+    let g = l .inv .2 m d (c .before .before .before .before .before .before .before .before .before .before .before .before .before .before .before .before .before .pre .1 .consistent) in
+    (walking-step m (a .n) (a .k) (a .kind .now) (a .first .now) (a .size .now) (a .listed .now) (a .zone .now) (a .place .now) (a .rows .now) d (a .file .now) (a .len) (c .before .before .before .before .before .before .before .before .before .before .before .before .before .before .before .before .before .pre .0 .0) (a .count) (worldIn (a .robots .now) (a .vertices .now) 0 (a .out .now)) (l .i) (l .o) (worldIn (l .robots) (l .vertices) (l .made) (l .out)) g (c .before .before .before .before .before .before .before .test-step .result) (c .before .before .before .before .before .before .before .test-step .ensures m d (l .i) ∙ tests-alone m (a .k) (take (a .len) (payload (a .file .now))) (l .i) (l .o) (l .robots) (l .vertices)) _ (c .before .before .before .before .before .t .given .1), c .before .before .before .payload-four .ensures)
 
 -- src/walk.rt:101:17
 add-i : tie.Need-add-i Inv-loop μ-loop
-add-i c = search (needs, c .before .before .before .before .before .before .before .before .before .before .before .before .before .before .before .before .loop-test .taken, c .before .before .before .before .before .before .before .before .before .before .before .before .before .before .before .before .before .before .before .before .before .before .before .pre .0 .2)
+add-i c = search (needs, c .before .before .before .before .before .before .before .before .before .before .before .before .before .before .before .before .before .loop-test .taken, c .before .before .before .before .before .before .before .before .before .before .before .before .before .before .before .before .before .before .before .before .before .before .before .before .pre .0 .2)
 
 -- src/walk.rt:58:5
 loop-less : tie.Need-loop-less Inv-loop μ-loop
@@ -114,15 +126,15 @@ loop-less c = search needs
 -- src/walk.rt:58:5
 loop-again : tie.Need-loop-again Inv-loop μ-loop
 loop-again c =
-    let a = c .before .before .before .before .before .before .before .before .before .before .before .before .before .before .before .before .before .before .before .before .before .before .before .args in
-    let l = c .before .before .before .before .before .before .before .before .before .before .before .before .before .before .before .before .before .loop in (
+    let a = c .before .before .before .before .before .before .before .before .before .before .before .before .before .before .before .before .before .before .before .before .before .before .before .before .args in
+    let l = c .before .before .before .before .before .before .before .before .before .before .before .before .before .before .before .before .before .before .loop in (
       search needs,
       search needs,
       λ m d h.
           let g = l .inv .2 m d h in
-          let t = c .before .before .before .before .before .before .before .before .before .before .before .before .before .test-step .ensures m d (l .i) ∙ tests-alone m (a .k) (take (a .len) (payload (a .file .now))) (l .i) (l .o) (l .robots) (l .vertices) in
-          walking-next m (a .n) (a .k) (a .kind .now) (a .first .now) (a .size .now) (a .listed .now) (a .zone .now) (a .place .now) (a .rows .now) d (a .file .now) (a .len) (c .before .before .before .before .before .before .before .before .before .before .before .before .before .before .before .before .before .before .before .before .before .before .before .pre .0 .0) (a .count) (worldIn (a .robots .now) (a .vertices .now) 0 (a .out .now)) (l .i) (l .o) (worldIn (l .robots) (l .vertices) (l .made) (l .out)) g (c .before .before .before .before .before .before .before .before .before .before .before .before .before .test-step .result) t _ (c .before .before .before .before .before .before .before .before .before .before .before .t .given .1) _ (c .before .before .before .before .before .before .before .before .before .before .before .before .before .before .before .before .loop-test .taken)
-          (c .before .before .before .before .before .before .make-step .ensures m (a .n) (a .k) (a .len) (a .rows .now) d (g .consistent) (c .before .before .before .before .before .before .before .before .before .before .before .before .before .before .before .before .before .before .before .before .before .before .before .pre .0 .0) (walking-passes m (a .n) (a .k) (a .kind .now) (a .first .now) (a .size .now) (a .listed .now) (a .zone .now) (a .place .now) (a .rows .now) d (a .file .now) (a .len) (c .before .before .before .before .before .before .before .before .before .before .before .before .before .before .before .before .before .before .before .before .before .before .before .pre .0 .0) (a .count) (worldIn (a .robots .now) (a .vertices .now) 0 (a .out .now)) (l .i) (l .o) (worldIn (l .robots) (l .vertices) (l .made) (l .out)) g (c .before .before .before .before .before .before .before .before .before .before .before .before .before .test-step .result) t _ (c .before .before .before .before .before .before .before .before .before .before .before .t .given .1))),
+          let t = c .before .before .before .before .before .before .before .before .before .before .before .before .before .before .test-step .ensures m d (l .i) ∙ tests-alone m (a .k) (take (a .len) (payload (a .file .now))) (l .i) (l .o) (l .robots) (l .vertices) in
+          walking-next m (a .n) (a .k) (a .kind .now) (a .first .now) (a .size .now) (a .listed .now) (a .zone .now) (a .place .now) (a .rows .now) d (a .file .now) (a .len) (c .before .before .before .before .before .before .before .before .before .before .before .before .before .before .before .before .before .before .before .before .before .before .before .before .pre .0 .0) (a .count) (worldIn (a .robots .now) (a .vertices .now) 0 (a .out .now)) (l .i) (l .o) (worldIn (l .robots) (l .vertices) (l .made) (l .out)) g (c .before .before .before .before .before .before .before .before .before .before .before .before .before .before .test-step .result) t _ (c .before .before .before .before .before .before .before .before .before .before .before .before .t .given .1) _ (c .before .before .before .before .before .before .before .before .before .before .before .before .before .before .before .before .before .loop-test .taken)
+          (c .before .before .before .before .before .before .make-step .ensures m (a .n) (a .k) (a .len) (a .rows .now) d (g .consistent) (c .before .before .before .before .before .before .before .before .before .before .before .before .before .before .before .before .before .before .before .before .before .before .before .before .pre .0 .0) (walking-passes m (a .n) (a .k) (a .kind .now) (a .first .now) (a .size .now) (a .listed .now) (a .zone .now) (a .place .now) (a .rows .now) d (a .file .now) (a .len) (c .before .before .before .before .before .before .before .before .before .before .before .before .before .before .before .before .before .before .before .before .before .before .before .before .pre .0 .0) (a .count) (worldIn (a .robots .now) (a .vertices .now) 0 (a .out .now)) (l .i) (l .o) (worldIn (l .robots) (l .vertices) (l .made) (l .out)) g (c .before .before .before .before .before .before .before .before .before .before .before .before .before .before .test-step .result) t _ (c .before .before .before .before .before .before .before .before .before .before .before .before .t .given .1))),
       search needs,
       search needs,
     )
@@ -188,6 +200,7 @@ walk-spec =
     enum-known-t
     add-next
     add-next-2
+    payload-four-requires
     make-step-requires
     add-i
     loop-less

@@ -1,0 +1,31 @@
+use mathlib.Core.Path.{sym, _∙_}
+use lib.Dec.{eqb→eq}
+use Rattle.theory.specs.Basics.Tests.{of-true}
+use borrow.Author.Needs.{needs}
+use Rattle.resolve.proofs.step.is_ready.Statement.{statement}
+use Rattle.resolve.proofs.step.is_ready.Tie as tie
+use Rattle.resolve.proofs.step.is_ready.Reads as reads
+use Rattle.resolve.proofs.step.is_ready.Lts as lts
+use Rattle.motion.proofs.robot_in.Reads as robot-in-reads
+use Rattle.zones.proofs.behind_of.Reads as behind-of-reads
+
+-- src/step.rt:71:8
+robot-in-requires : tie.Need-robot-in-requires
+robot-in-requires c κs = search needs
+
+-- src/step.rt:72:9
+returns : tie.Need-returns
+returns c =
+    λ q. absurd (of-true q)
+
+-- src/step.rt:74:5
+behind-of-requires : tie.Need-behind-of-requires
+behind-of-requires c κs = search needs
+
+-- src/step.rt:67:1
+returns-2 : tie.Need-returns-2
+returns-2 c =
+    λ q. (sym (c .before .if1 .left) ∙ c .before .before .robot-in .ensures, sym (c .behind-of .ensures) ∙ eqb→eq _ _ (of-true q))
+
+pub is-ready-spec : {M : Type 1} → statement M
+is-ready-spec = tie.close (tie.spec robot-in-requires returns behind-of-requires returns-2)
