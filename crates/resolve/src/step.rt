@@ -71,7 +71,8 @@ fn is_ready(kind: u8, robots: &[u8], zone: &[u8], j: usize, behind: u8, v: Verte
     if motion::robot_in(robots, v) != 255 {
         return false;
     }
-    zones::behind_of(kind, robots, zone, j) == behind
+    let nearest = zones::behind_of(kind, robots, zone, j);
+    nearest == behind
 }
 
 // The moves that make room at place j, which is vertex v, where the step fills no clique: none where the zone is ready.
