@@ -8,7 +8,7 @@ ghost use Rattle.spec.specs.Layout.{Map};
 ghost use Rattle.spec.specs.State.{arrangementOf, across};
 ghost use Rattle.spec.specs.ZoneKind.{canLeave};
 ghost use Rattle.theory.specs.Maps.Consistent.{Consistent};
-ghost use Rattle.wire.specs.Payload.{payload};
+ghost use Rattle.wire.specs.Payload.{payload, FourAt};
 ghost use Rattle.motion.specs.Tables.{tabled};
 ghost use Rattle.motion.specs.World.{worldIn, madeAll};
 ghost use Rattle.motion.specs.Coupling.{Listed};
@@ -20,6 +20,7 @@ ghost use Rattle.resolve.specs.Given.{Given, Stepping, HasVertex, kindAt
 use crate::tests::copy_list;
 use numbering::Robot;
 use numbering::Vertex;
+use wire::Four;
 
 // The moves that bring robot r, which can leave there, to vertex u.
 fn leave_at<'a>(
@@ -124,13 +125,14 @@ fn enter_at<'a>(
     )
 }
 
-// The moves of the step at offset o, which passed its tests, with a follow list of n bytes.
+// The moves of the step at offset o with these four bytes, which passes its tests, with a follow list of n bytes.
 pub fn make_step<'a>(
     robots: &mut [u8],
     vertices: &mut [u8],
     count: usize,
     file: &[u8],
     o: usize,
+    four: Four,
     n: usize,
     kind: &'a [u8; 64],
     first: &'a [u8; 64],
@@ -141,12 +143,13 @@ pub fn make_step<'a>(
     out: &mut [u8],
 ) -> usize
     requires { ⌜ Stepping (now file) o n (now kind) (now first) (now size) (now listed) (now zone) (now place) (tabled (now robots) (now vertices)) ⌝ }
+    requires { ⌜ FourAt (now file) o four ⌝ }
     ensures { λ q. ⌜ ((m : Map) (points k len : ℕ) (rows : List (List ℕ)) → Given m points k (now (kind .entry)) (now (first .entry)) (now (size .entry)) (now (listed .entry)) (now (zone .entry)) (now (place .entry)) rows → Consistent m k (tabled (now (robots .entry)) (now (vertices .entry))) → len ≤ length (now (file .entry)) / 512 * 504 → Passes m k (take len (payload (now (file .entry)))) o (tabled (now (robots .entry)) (now (vertices .entry))) n → worldIn (now (robots .exit)) (now (vertices .exit)) q (now (out .exit)) ≡ madeAll (worldIn (now (robots .entry)) (now (vertices .entry)) count (now (out .entry))) (stepMoves m (take len (payload (now (file .entry)))) o n (tabled (now (robots .entry)) (now (vertices .entry))))) ⌝ }
 {
-    let r = wire::payload_byte(file, o);
-    let u = wire::payload_byte(file, o + 1);
-    let v = wire::payload_byte(file, o + 2);
-    let behind = wire::payload_byte(file, o + 3);
+    let r = four.first;
+    let u = four.second;
+    let v = four.third;
+    let behind = four.fourth;
     let from = o + 4;
     let left = leave_at(
         robots,
