@@ -12,7 +12,7 @@ use Rattle.spec.specs.State.{moveBytes, movesPayload}
 use Rattle.spec.specs.Run.{resolvedMoves}
 use Rattle.spec.specs.Services as meaning
 use Rattle.spec.specs.Terms.{Bytes, zoneCount, kindOf, placeOf}
-use Rattle.theory.specs.Basics.Outcomes.{bind, never}
+use Rattle.theory.specs.Basics.Outcomes.{bind}
 use Rattle.theory.specs.Basics.Lists.{getD-default}
 use Rattle.theory.specs.Codec.Written.{written-bytes}
 use Rattle.theory.specs.Maps.Placing.{Placed}
@@ -25,14 +25,14 @@ use Rattle.checking.specs.Checked.{Whole}
 use Rattle.wire.specs.Laid.{laidAll, laid-length}
 use Rattle.answers.specs.Delivered.{deliveredOf, delivered-counted, delivered-over, fits-over}
 use Rattle.zones.specs.Tables.{Tables}
-use Rattle.resolve.specs.Given.{Given, Placement}
-use Rattle.resolve.specs.Fault.{faultOf}
-use Rattle.resolve.specs.Whole.{ResolvedTo, ResolvedOr}
+use Rattle.resolve.specs.Given.{Given, Placement, Cleared}
+use Rattle.resolve.specs.Whole.{ResolvedOr}
+use Rattle.judge.specs.Fault.{faultOf}
 use Rattle.judge.specs.Judging.{JudgedTo}
 use mathlib.Core.Logic.{_⊎_, inl, inr, ⊎-elim}
 use mathlib.Core.Bool.{Bool, true, false}
-use Rattle.resolve.specs.declared.PlanFault.{PlanFault}
-use Rattle.resolve.specs.declared.PlanFault.the-variants as plan
+use Rattle.judge.specs.declared.PlanFault.{PlanFault}
+use Rattle.judge.specs.declared.PlanFault.the-variants as plan
 use Rattle.resolve.specs.declared.Resolved.{Resolved}
 use Rattle.galzpuna.specs.declared.Answer.{Answer}
 use Rattle.galzpuna.specs.declared.Yard.{Yard}
@@ -90,7 +90,7 @@ module _ (a b : List ℕ) (map : MapRead) (pl : PlacingRead) (rows : List (List 
     edges = d .shown;
   }
 
-  pub yard-placement : Placement (map .vertices) (map .zones) (pl .robots) (map .kind) (map .first) (map .size) (map .listed) (map .zone) (map .place) rows (pl .starts) (pl .goals)
+  unfoldable pub yard-placement : Placement (map .vertices) (map .zones) (pl .robots) (map .kind) (map .first) (map .size) (map .listed) (map .zone) (map .place) rows (pl .starts) (pl .goals)
   yard-placement = record {
     map = d .it .graph;
     placing = d .it .placing;
@@ -99,6 +99,21 @@ module _ (a b : List ℕ) (map : MapRead) (pl : PlacingRead) (rows : List (List 
     placed = d .placed;
     on-starts = sym (d .robots .starts);
     on-goals = sym (d .robots .goals);
+  }
+
+  -- a plan that judging cleared
+  unfoldable pub yard-cleared : (f : List ℕ) (len : ℕ) → len ≤ length f / 512 * 504 → len ≤ 32256 → (g : PlanFault) → JudgedTo (d .it .graph) (d .it .placing) (take len (payload f)) g → g ≡ plan.None
+      → Cleared f (map .zones) (pl .robots) (map .kind) (map .first) (map .size) (map .listed) (map .zone) (map .place) (pl .starts) (pl .goals)
+  unfolding yard-placement
+  yard-cleared f len most few g j e = record {
+    n = map .vertices;
+    rows = rows;
+    on = yard-placement;
+    len = len;
+    most = most;
+    few = few;
+    moves = j .moves;
+    resolved = sym (j .answer) ∙ ap (λ (h : PlanFault). faultOf h (j .moves)) e;
   }
 
 -- a plan's payload is at most 64 parts
@@ -130,66 +145,59 @@ module _ (a b c o₀ : List ℕ) where
           long = refl;
         }
 
-    module _ (z : n ≡ 0) (r : Resolved) (p : List ℕ) (t : ResolvedTo (d .it .graph) (d .it .placing) (take q (payload c)) o₀ p r) (n₁ q₁ : ℕ)
-        (e₁ : (ms : List Move) → refusalOr n₁ q₁ ms ≡ faultOf (r .fault) ms) (none : n₁ ≡ 0 → r .fault ≡ plan.None) where
+    module _ (z : n ≡ 0) (f : PlanFault) (j : JudgedTo (d .it .graph) (d .it .placing) (take q (payload c)) f) (n₀ q₀ : ℕ)
+        (e₀ : (ms : List Move) → refusalOr n₀ q₀ ms ≡ faultOf f ms) where
+      -- the plan's payload is read
       read : payloadOf 30 3 64 c ≡ ok (take q (payload c))
       read = sym (e ∙ ec) ∙ refusal-none n q (take q (payload c)) z
 
-      pub plan-is : meaning.planMoves a b c ≡ refusalOr n₁ q₁ (t .moves)
+      -- so what is left is to resolve it
+      plan-on : meaning.planMoves a b c ≡ resolvedMoves (d .it .graph) (d .it .placing) (take q (payload c))
       unfolding meaning.planMoves
-      plan-is = bind _ _ _ (d .instance) ∙ bind _ _ _ read ∙ sym (t .answer) ∙ sym (e₁ (t .moves))
+      plan-on = bind _ _ _ (d .instance) ∙ bind _ _ _ read
 
-      -- the plan is resolved, or refused at a step, a surplus or the goals
-      pub planned-all : PlannedIs a b c o₀ (record { refusal = record { number = n₁; place = q₁ }; count = r .count }) p
-      planned-all = record {
-        refused = λ h. plan-is ∙ refusal-some n₁ q₁ (t .moves) h;
-        small = λ h. small-at 65536 n₁ q₁ (resolvedMoves (d .it .graph) (d .it .placing) (take q (payload c)))
-            (small-resolved (d .it .graph) (d .it .placing) (take q (payload c)) (written-bytes 30 3 64 c (take q (payload c)) hc read) (omega (arith, d .held .few, d .held .count)))
-            (sym (t .answer) ∙ sym (e₁ (t .moves)) ∙ refusal-some n₁ q₁ (t .moves) h);
-        resolved = λ y. inl (record { moves = t .moves; resolved = plan-is ∙ refusal-none n₁ q₁ (t .moves) y; counted = t .count (none y); laid = t .buffer (none y) });
-        long = t .long;
+      -- which judging says
+      plan-is : resolvedMoves (d .it .graph) (d .it .placing) (take q (payload c)) ≡ refusalOr n₀ q₀ (j .moves)
+      plan-is = sym (j .answer) ∙ sym (e₀ (j .moves))
+
+      -- it is refused at a step, a surplus or the goals
+      judged-refuse : (n₀ ≡ 0 → ⊥) → resolvedMoves (d .it .graph) (d .it .placing) (take q (payload c)) ≡ refuse n₀ q₀
+      judged-refuse h = plan-is ∙ refusal-some n₀ q₀ (j .moves) h
+
+      -- at a place that fits
+      judged-small : (n₀ ≡ 0 → ⊥) → q₀ < 65536
+      judged-small h = small-at 65536 n₀ q₀ (resolvedMoves (d .it .graph) (d .it .placing) (take q (payload c)))
+          (small-resolved (d .it .graph) (d .it .placing) (take q (payload c)) (written-bytes 30 3 64 c (take q (payload c)) hc read) (omega (arith, d .held .few, d .held .count)))
+          (judged-refuse h)
+
+      -- it is not cleared
+      pub planned-refused : (n₀ ≡ 0 → ⊥) → PlannedIs a b c o₀ (record { refusal = record { number = n₀; place = q₀ }; count = 0 }) o₀
+      planned-refused h = record { refused = λ y. plan-on ∙ judged-refuse y; small = judged-small; resolved = λ y. absurd (h y); long = refl }
+
+      -- what judging says of the plan
+      pub planned-judged : JudgedIs a b c (record { number = n₀; place = q₀ })
+      planned-judged = record {
+        count = length (j .moves);
+        buffer = laidAll [] 2 (moveBytes (j .moves));
+        planned = record {
+          refused = λ y. plan-on ∙ judged-refuse y;
+          small = judged-small;
+          resolved = λ y. inl (record { moves = j .moves; resolved = plan-on ∙ plan-is ∙ refusal-none n₀ q₀ (j .moves) y; counted = refl; laid = refl });
+          long = laid-length [] 2 (moveBytes (j .moves));
+        };
       }
 
-module _ (a b c o₀ : List ℕ) (map : MapRead) (pl : PlacingRead) (rows : List (List ℕ)) (d : YardRead a b map pl rows) (hc : Bytes c) (o : Outcome (List ℕ)) (ec : o ≡ payloadOf 30 3 64 c)
-    (n q : ℕ) (e : movesFile n q c ≡ o) (z : n ≡ 0) (f : PlanFault) (j : JudgedTo (d .it .graph) (d .it .placing) (take q (payload c)) f) (n₀ q₀ : ℕ)
-    (e₀ : (ms : List Move) → refusalOr n₀ q₀ ms ≡ faultOf f ms) (none₀ : n₀ ≡ 0 → f ≡ plan.None) where
-  -- what judging says of the plan
-  pub planned-judged : JudgedIs a b c (record { number = n₀; place = q₀ })
-  planned-judged = record {
-    count = j .count;
-    buffer = j .buffer;
-    planned = planned-all a b c [] map pl rows d hc o ec n q e z (record { fault = f; over = false; count = j .count }) (j .buffer) (j .resolved) n₀ q₀ e₀ none₀;
-  }
+      -- it is cleared, and resolved as far as a list goes
+      pub planned-cleared : n₀ ≡ 0 → (r : Resolved) (p : List ℕ) → ResolvedOr (d .it .graph) (d .it .placing) (take q (payload c)) o₀ p r
+          → PlannedIs a b c o₀ (record { refusal = record { number = n₀; place = q₀ }; count = r .count }) p
+      planned-cleared y r p t = record { refused = λ h. absurd (h y); small = λ h. absurd (h y); resolved = λ h. go (r .over) refl; long = t .long }
+        where
+          cleared : resolvedMoves (d .it .graph) (d .it .placing) (take q (payload c)) ≡ ok (j .moves)
+          cleared = plan-is ∙ refusal-none n₀ q₀ (j .moves) y
 
-  -- it is not cleared
-  pub planned-refused : (n₀ ≡ 0 → ⊥) → PlannedIs a b c o₀ (record { refusal = record { number = n₀; place = q₀ }; count = 0 }) o₀
-  planned-refused h = record { refused = planned-judged .planned .refused; small = planned-judged .planned .small; resolved = λ y. absurd (h y); long = refl }
-
-  -- it is, and resolved as far as a list goes
-  pub planned-cleared : n₀ ≡ 0 → (r : Resolved) (p : List ℕ) → ResolvedOr (d .it .graph) (d .it .placing) (take q (payload c)) o₀ p r → (n₁ q₁ : ℕ)
-      → ((ms : List Move) → refusalOr n₁ q₁ ms ≡ faultOf (r .fault) ms) → (n₁ ≡ 0 → r .fault ≡ plan.None)
-      → PlannedIs a b c o₀ (record { refusal = record { number = n₁; place = q₁ }; count = r .count }) p
-  planned-cleared y r p t n₁ q₁ e₁ none₁ = go (r .over) refl
-    where
-      ms : List Move
-      ms = j .resolved .moves
-
-      listed : meaning.planMoves a b c ≡ ok ms
-      listed = plan-is a b c [] map pl rows d hc o ec n q e z (record { fault = f; over = false; count = j .count }) (j .buffer) (j .resolved) n₀ q₀ e₀ none₀ ∙ refusal-none n₀ q₀ ms y
-
-      go : (x : Bool) → r .over ≡ x → PlannedIs a b c o₀ (record { refusal = record { number = n₁; place = q₁ }; count = r .count }) p
-      go false x = planned-all a b c o₀ map pl rows d hc o ec n q e z r p (t .whole x) n₁ q₁ e₁ none₁
-      go true x = record {
-        refused = λ h. absurd (never (sym (refusal-some n₁ q₁ ms h) ∙ e₁ ms ∙ ap (λ (g : PlanFault). faultOf g ms) (t .none x)));
-        small = λ h. absurd (never (sym (refusal-some n₁ q₁ ms h) ∙ e₁ ms ∙ ap (λ (g : PlanFault). faultOf g ms) (t .none x)));
-        resolved = λ h. inr (record {
-          moves = ms;
-          resolved = listed;
-          most = t .part x .most ms (sym (j .resolved .answer) ∙ ap (λ (g : PlanFault). faultOf g ms) (none₀ y));
-          over = t .part x .over;
-        });
-        long = t .long;
-      }
+          go : (x : Bool) → r .over ≡ x → Moves a b c o₀ (r .count) p ⊎ Over a b c (r .count)
+          go false x = let w = t .whole x in inl (record { moves = w .moves; resolved = plan-on ∙ w .answer; counted = w .counted; laid = w .buffer })
+          go true x = let w = t .part x in inr (record { moves = j .moves; resolved = plan-on ∙ cleared; most = w .most (j .moves) cleared; over = w .over })
 
 -- ---- the services
 

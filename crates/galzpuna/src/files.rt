@@ -6,7 +6,7 @@ ghost use Rattle.spec.specs.Layout.{Map, Placing};
 ghost use Rattle.spec.specs.Terms.{zoneCount};
 ghost use Rattle.theory.specs.Maps.Placing.{Placed};
 ghost use Rattle.wire.specs.Payload.{payload};
-ghost use Rattle.resolve.specs.Given.{Given, Placement};
+ghost use Rattle.resolve.specs.Given.{Given, Placement, Cleared};
 ghost use Rattle.resolve.specs.Whole.{ResolvedOr};
 ghost use Rattle.adjacency.specs.Rows.{blank};
 ghost use Rattle.galzpuna.specs.Opened.{MapFiled, OpenedIs, YardIs};
@@ -17,9 +17,9 @@ use crate::Planned;
 use crate::Refusal;
 use crate::Yard;
 use crate::refusals;
+use judge::PlanFault;
 use layout::MapRead;
 use placing::PlacingRead;
-use resolve::PlanFault;
 use resolve::Resolved;
 
 // A placing of no robots, where none is read.
@@ -111,19 +111,16 @@ pub fn open_list(map: &[u8], len: usize, placed: &[u8], moves: &[u8]) -> Opened
     }
 }
 
-// Resolves the plan in a checked file on a map and a placing that were read.
+// Resolves the plan in a checked file, which is cleared, on a map and a placing that were read.
 fn resolve_on(
     plan: &[u8],
-    len: usize,
     m: MapRead,
     listed: [u8; 128],
-    rows: &[[u64; 2]; 128],
     p: PlacingRead,
     out: &mut [u8],
 ) -> Resolved
-    requires { ⌜ (len ≤ length (now plan) / 512 * 504) × (len ≤ 32256) ⌝ }
-    requires { ⌜ Placement (m .vertices) (m .zones) (p .robots) (m .kind) (m .first) (m .size) listed (m .zone) (m .place) (now rows) (p .starts) (p .goals) ⌝ }
-    ensures { λ r. ⌜ ((x : Map) (y : Placing) → Given x (m .vertices) (p .robots) (m .kind) (m .first) (m .size) listed (m .zone) (m .place) (now (rows .entry)) → zoneCount x ≡ m .zones → Placed (x .size) y → y .starts ≡ take (p .robots) (p .starts) → y .goals ≡ take (p .robots) (p .goals) → ResolvedOr x y (take len (payload (now (plan .entry)))) (now (out .entry)) (now (out .exit)) r) ⌝ }
+    requires { ⌜ Cleared (now plan) (m .zones) (p .robots) (m .kind) (m .first) (m .size) listed (m .zone) (m .place) (p .starts) (p .goals) ⌝ }
+    ensures { λ r. ⌜ ((x : Cleared (now (plan .entry)) (m .zones) (p .robots) (m .kind) (m .first) (m .size) listed (m .zone) (m .place) (p .starts) (p .goals)) → ResolvedOr (x .on .map) (x .on .placing) (take (x .len) (payload (now (plan .entry)))) (now (out .entry)) (now (out .exit)) r) ⌝ }
 {
     let kind = m.kind;
     let first = m.first;
@@ -134,15 +131,12 @@ fn resolve_on(
     let goals = p.goals;
     resolve::resolve_plan(
         plan,
-        len,
         &kind,
         &first,
         &size,
         &listed,
         &zone,
         &place,
-        rows,
-        m.vertices as usize,
         m.zones as usize,
         starts,
         goals,
@@ -185,11 +179,9 @@ fn resolve_checked(map: &[u8], len: usize, placed: &[u8], plan: &[u8], out: &mut
             count: 0,
         };
     }
-    let r = resolve_on(plan, c.place, m, listed, &rows, p, out);
-    let fault = r.fault;
-    let d = refusals::of_plan(fault);
+    let r = resolve_on(plan, m, listed, p, out);
     Planned {
-        refusal: d,
+        refusal: e,
         count: r.count,
     }
 }
@@ -218,7 +210,7 @@ fn judge_on(
     rows: &[[u64; 2]; 128],
     p: PlacingRead,
 ) -> PlanFault
-    requires { ⌜ (len ≤ length (now plan) / 512 * 504) × (len ≤ 32256) ⌝ }
+    requires { ⌜ len ≤ length (now plan) / 512 * 504 ⌝ }
     requires { ⌜ Placement (m .vertices) (m .zones) (p .robots) (m .kind) (m .first) (m .size) listed (m .zone) (m .place) (now rows) (p .starts) (p .goals) ⌝ }
     ensures { λ r. ⌜ ((x : Map) (y : Placing) → Given x (m .vertices) (p .robots) (m .kind) (m .first) (m .size) listed (m .zone) (m .place) (now (rows .entry)) → zoneCount x ≡ m .zones → Placed (x .size) y → y .starts ≡ take (p .robots) (p .starts) → y .goals ≡ take (p .robots) (p .goals) → JudgedTo x y (take len (payload (now (plan .entry)))) r) ⌝ }
 {

@@ -7,15 +7,15 @@ ghost use Rattle.layout.specs.Fault as mapFault;
 ghost use Rattle.placing.specs.Fault as placingFault;
 ghost use Rattle.spec.specs.Arrangement.{Move};
 ghost use Rattle.replay.specs.Check.{moveListOf};
-ghost use Rattle.resolve.specs.Fault.{faultOf};
+ghost use Rattle.judge.specs.Fault.{faultOf};
 ghost use Rattle.checking.specs.Checked.{checkedOf};
 ghost use Rattle.galzpuna.specs.Refusals.{refusalOr, movesFile, movesList};
 use crate::Refusal;
 use checking::Checked;
+use judge::PlanFault;
 use layout::MapFault;
 use placing::PlacingFault;
 use replay::MoveList;
-use resolve::PlanFault;
 
 // A map's file: 11 to 14; where there is no refusal, the place is the payload's length.
 pub fn of_map_file(checked: Checked) -> Refusal

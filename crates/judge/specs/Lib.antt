@@ -1,4 +1,7 @@
 -- Judging on configurations.
+pub mod Fault
+pub mod Testing
+pub mod Endings
 pub mod Lists
 pub mod Members
 pub mod Leaving

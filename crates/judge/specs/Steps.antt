@@ -24,9 +24,10 @@ use Rattle.zones.specs.Tables as zones
 use Rattle.resolve.specs.Given.{Given, kindAt, verticesAt, zone-is, kind-is, vertices-is, place-is}
 use Rattle.wire.specs.Payload.{payload, FourAt}
 use Rattle.wire.specs.declared.Four.{Four}
-use Rattle.resolve.specs.declared.StepTest.{StepTest}
-use Rattle.resolve.specs.declared.StepTest.the-variants as step
-use Rattle.resolve.specs.Tests.{testOf, entryTests, stepTests}
+use Rattle.resolve.specs.Tests.{entryTests, stepTests}
+use Rattle.judge.specs.declared.StepTest.{StepTest}
+use Rattle.judge.specs.declared.StepTest.the-variants as step
+use Rattle.judge.specs.Fault.{testOf}
 use Rattle.judge.specs.declared.Entry.{Entry}
 use Rattle.judge.specs.declared.Tested.{Tested}
 use Rattle.judge.specs.Entering.{entryOn}

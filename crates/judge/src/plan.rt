@@ -8,10 +8,10 @@ ghost use Rattle.theory.specs.Maps.Placing.{Placed};
 ghost use Rattle.wire.specs.Payload.{payload};
 ghost use Rattle.resolve.specs.Given.{Given, Placement};
 ghost use Rattle.judge.specs.Judging.{JudgedTo};
+use crate::PlanFault;
 use crate::ending::fill_lists;
 use crate::ending::off_zone;
 use crate::walk::walk;
-use resolve::PlanFault;
 
 // Judges the plan whose payload, of `len` bytes, stands in a checked file, on lists that are lent: cells as many as listed vertices, counts all zero.
 fn judge_in<'a>(
@@ -32,7 +32,7 @@ fn judge_in<'a>(
     cells: &mut [u8],
     counts: &mut [u8; 64],
 ) -> PlanFault
-    requires { ⌜ (len ≤ length (now file) / 512 * 504) × (len ≤ 32256) × (2 ≤ len) ⌝ }
+    requires { ⌜ (len ≤ length (now file) / 512 * 504) × (2 ≤ len) ⌝ }
     requires { ⌜ (length (now cells) ≡ length (now listed)) × (length (now counts) ≡ 64) × ((z : ℕ) → getD (now counts) z 0 ≡ 0) ⌝ }
     requires { ⌜ Placement n zones k (now kind) (now first) (now size) (now listed) (now zone) (now place) (now rows) starts goals ⌝ }
     ensures { λ r. ⌜ ((m : Map) (pl : Placing) → Given m n k (now (kind .entry)) (now (first .entry)) (now (size .entry)) (now (listed .entry)) (now (zone .entry)) (now (place .entry)) (now (rows .entry)) → zoneCount m ≡ zones → Placed (m .size) pl → pl .starts ≡ take k starts → pl .goals ≡ take k goals → JudgedTo m pl (take len (payload (now (file .entry)))) r) ⌝ }
@@ -92,7 +92,7 @@ pub fn judge_plan<'a>(
     goals: [u8; 64],
     k: usize,
 ) -> PlanFault
-    requires { ⌜ (len ≤ length (now file) / 512 * 504) × (len ≤ 32256) × (length (now listed) ≡ 128) ⌝ }
+    requires { ⌜ (len ≤ length (now file) / 512 * 504) × (length (now listed) ≡ 128) ⌝ }
     requires { ⌜ Placement n zones k (now kind) (now first) (now size) (now listed) (now zone) (now place) (now rows) starts goals ⌝ }
     ensures { λ r. ⌜ ((m : Map) (pl : Placing) → Given m n k (now (kind .entry)) (now (first .entry)) (now (size .entry)) (now (listed .entry)) (now (zone .entry)) (now (place .entry)) (now (rows .entry)) → zoneCount m ≡ zones → Placed (m .size) pl → pl .starts ≡ take k starts → pl .goals ≡ take k goals → JudgedTo m pl (take len (payload (now (file .entry)))) r) ⌝ }
 {

@@ -20,12 +20,12 @@ ghost use Rattle.judge.specs.Making.{Marching, Marched, TakesOut, PutsIn
 ghost use Rattle.judge.specs.Judging.{JudgedWalk};
 use crate::Entry;
 use crate::JudgedSteps;
+use crate::PlanFault;
+use crate::StepTest;
 use crate::Tested;
-use resolve::PlanFault;
-use resolve::StepTest;
-use resolve::tests::are_numbered;
-use resolve::tests::is_crossing;
-use resolve::walk::refusal_of;
+use crate::tests::are_numbered;
+use crate::tests::is_crossing;
+use crate::tests::refusal_of;
 use wire::Four;
 
 // Where robot r, that is to leave its zone at vertex u, stands in the zone's list; 128 where it can't.

@@ -1,24 +1,14 @@
--- What the tests read of a state is its table of the robots by vertex, so that table alone decides them.
-use mathlib.Core.Path.{_≡_, refl, ap, sym, _∙_}
+-- What the goals read of a state is its table of the robots by vertex, so that table alone decides them.
+use mathlib.Core.Path.{_≡_, refl, sym, ap, _∙_}
 use mathlib.Core.List.{List, [], _∷_, _++_}
 use Prim.Native.Nat.{ℕ, _+_}
-use Rattle.spec.specs.Outcome.{Outcome, check, _>>_}
-use Rattle.spec.specs.Layout.{Map, Zone}
+use Rattle.spec.specs.Outcome.{Outcome, ok, check, _>>_}
+use Rattle.spec.specs.Layout.{Zone}
 use Rattle.spec.specs.Arrangement.{Move}
 use Rattle.spec.specs.State.{arrangementOf, across}
 use Rattle.spec.specs.ZoneKind.{canEnd, end}
 use Rattle.spec.specs.Run.{goalsFrom, endingsFrom}
 use Rattle.motion.specs.Tables.{tabled, onVertices}
-use Rattle.motion.specs.World.{worldIn, madeAll}
-use Rattle.resolve.specs.declared.Resolved.{Resolved}
-use Rattle.resolve.specs.Tests.{stepTests, entryTests}
-use Rattle.resolve.specs.Whole.{FinishOf}
-
--- the tests of a step
-pub tests-alone : (m : Map) (k : ℕ) (p : List ℕ) (i o : ℕ) (robots vertices : List ℕ)
-    → stepTests m k p i o (onVertices robots) ≡ stepTests m k p i o (tabled robots vertices)
-unfolding stepTests entryTests arrangementOf
-tests-alone m k p i o robots vertices = refl
 
 -- the tests of the goals
 pub goals-alone : (i : ℕ) (zs : List Zone) (robots vertices targets others : List ℕ)
@@ -29,6 +19,11 @@ goals-alone i (z ∷ zs) robots vertices targets others =
     ap (λ (r : Outcome (Unit {0})). check (canEnd (z .kind) (arrangementOf (onVertices robots) (z .vertices)) (arrangementOf (onVertices targets) (z .vertices))) 50 i >> r)
     (goals-alone (i + 1) zs robots vertices targets others)
 
+-- the table of the goals alone decides whether they can be reached
+pub goals-by : (zs : List Zone) (robots vertices targets others : List ℕ) → goalsFrom 0 zs (tabled robots vertices) (tabled targets others) ≡ ok tt
+    → goalsFrom 0 zs (tabled robots vertices) (onVertices targets) ≡ ok tt
+goals-by zs robots vertices targets others e = sym (goals-alone 0 zs robots vertices targets []) ∙ goals-alone 0 zs robots vertices targets others ∙ e
+
 -- the moves to the goals
 pub endings-alone : (zs : List Zone) (robots vertices targets others : List ℕ)
     → endingsFrom zs (tabled robots vertices) (onVertices targets) ≡ endingsFrom zs (tabled robots vertices) (tabled targets others)
@@ -37,13 +32,3 @@ endings-alone [] robots vertices targets others = refl
 endings-alone (z ∷ zs) robots vertices targets others =
     ap (λ (ms : List Move). across (z .vertices) (end (z .kind) (arrangementOf (tabled robots vertices) (z .vertices)) (arrangementOf (onVertices targets) (z .vertices))) ++ ms)
     (endings-alone zs robots vertices targets others)
-
--- the goals tested and reached
-pub finish-alone : (m : Map) (robots vertices targets others : List ℕ) (n : ℕ) (o₀ : List ℕ) (r : Resolved) (o : List ℕ)
-    → FinishOf m (onVertices targets) (worldIn robots vertices n o₀) r o → FinishOf m (tabled targets others) (worldIn robots vertices n o₀) r o
-finish-alone m robots vertices targets others n o₀ r o x = record {
-  answer = x .answer ∙ sym (goals-alone 0 (m .zones) robots vertices targets []) ∙ goals-alone 0 (m .zones) robots vertices targets others;
-  reached = λ e. (x .reached e .0, x .reached e .1 ∙ ap (madeAll (worldIn robots vertices n o₀)) (endings-alone (m .zones) robots vertices targets others));
-  long = x .long;
-  whole = x .whole;
-}

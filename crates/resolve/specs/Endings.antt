@@ -1,17 +1,16 @@
--- The goals tested and reached zone by zone.
+-- The goals reached zone by zone.
 use mathlib.Core.Path.{_≡_, refl, sym, ap, _∙_}
-use mathlib.Core.Bool.{Bool, true, false}
+use mathlib.Core.Bool.{Bool, true}
 use mathlib.Core.List.{List, [], _∷_, _++_}
-use Prim.Native.Nat.{ℕ, zero, suc, _+_, _-_, _≤_, _<_}
+use Prim.Native.Nat.{ℕ, zero, suc, _+_, _≤_, _<_}
 use native.Mathlib.Nat.{le-refl}
 use native.Mathlib.Omega.{arith}
 use native.Mathlib.Numerals.{add-one}
 use native.Mathlib.Decide.{ℕ-discrete}
 use lib.ListN.{drop, drop-of-length-le}
 use lib.Seq.{drop-cons}
-use lib.Dec.{T, ltb}
-use borrow.Author.Tests.{lt-ltb, le-ltb}
-use Rattle.spec.specs.Outcome.{Outcome, ok, refuse, _>>_, check}
+use lib.Dec.{T}
+use Rattle.spec.specs.Outcome.{ok}
 use Rattle.spec.specs.Layout.{Map, zoneAt}
 use Rattle.spec.specs.Arrangement.{Move}
 use Rattle.spec.specs.ZoneKind.{canEnd}
@@ -29,20 +28,6 @@ use Rattle.theory.specs.Zones.Kinds.{laws}
 use Rattle.theory.specs.Plans.Step.{proper}
 use Rattle.motion.specs.World.{World, madeAll, made-append, state-is}
 
--- 50, "goals not in the reached configuration: lowest zone": zone z of n is off its goals, or none is
-unfoldable pub offZone : ℕ → ℕ → Outcome (Unit {0})
-offZone z n = elim (ltb z n) [ true ↦ refuse 50 z | false ↦ ok tt ]
-
--- a zone is
-pub off-some : (z n : ℕ) → z < n → offZone z n ≡ refuse 50 z
-unfolding offZone
-off-some z n h = rw (lt-ltb z n h, offZone)
-
--- none is
-pub off-none : (z n : ℕ) → n ≤ z → offZone z n ≡ ok tt
-unfolding offZone
-off-none z n h = rw (le-ltb z n h, offZone)
-
 -- the zones from zone i on
 pub zones-next : (m : Map) (i : ℕ) → i < zoneCount m → drop i (m .zones) ≡ zoneAt m i ∷ drop (i + 1) (m .zones)
 unfolding zoneAt
@@ -52,21 +37,6 @@ module _ (m : Map) (s g : State) where
   -- the test of zone i
   abbrev pub ends : ℕ → Bool
   ends i = canEnd (kindOf m i) (arrangementIn m s i) (arrangementIn m g i)
-
-  -- zone i can be brought to its goals
-  pub goals-next : (i : ℕ) → i < zoneCount m → ends i ≡ true → goalsFrom i (drop i (m .zones)) s g ≡ goalsFrom (i + 1) (drop (i + 1) (m .zones)) s g
-  unfolding goalsFrom check _>>_
-  goals-next i h e = rw (zones-next m i h, e)
-
-  -- it can't
-  pub goals-off : (i : ℕ) → i < zoneCount m → ends i ≡ false → goalsFrom i (drop i (m .zones)) s g ≡ offZone i (zoneCount m)
-  unfolding goalsFrom check _>>_ offZone
-  goals-off i h e = rw (zones-next m i h, e, lt-ltb i (zoneCount m) h, offZone)
-
-  -- all can
-  pub goals-all : (i : ℕ) → zoneCount m ≤ i → goalsFrom i (drop i (m .zones)) s g ≡ offZone i (zoneCount m)
-  unfolding goalsFrom offZone
-  goals-all i h = rw (drop-of-length-le (m .zones) {i = i} h, le-ltb i (zoneCount m) h, offZone)
 
   -- what the tests say of each zone
   pub goals-at : (n i : ℕ) → i + n ≡ zoneCount m → goalsFrom i (drop i (m .zones)) s g ≡ ok tt → (z : ℕ) → i ≤ z → z < zoneCount m → ends z ≡ true

@@ -1,28 +1,25 @@
 -- What a plan is walked on: an accepted map in tables and rows, and a placing on it.
 use mathlib.Core.Path.{_≡_, sym, ap, _∙_}
-use mathlib.Core.Bool.{true, false, not}
 use mathlib.Core.List.{List}
 use Prim.Native.Nat.{ℕ, _+_, _-_, _*_, _/_, _<_, _≤_}
 use native.Mathlib.Omega.{arith}
 use lib.ListN.{length, getD, take, drop}
-use lib.Dec.{ltb→lt}
-use borrow.Author.Tests.{le-ltb, lt-ltb, eq-eqb, ne-eqb}
-use Rattle.spec.specs.Outcome.{ok, _&&_}
-use Rattle.spec.specs.Run.{goalsFrom}
-use Rattle.spec.specs.Layout.{Map, Placing, joined, zoneOf, zoneAt}
+use Rattle.spec.specs.Outcome.{ok}
+use Rattle.spec.specs.Run.{Ran, stepsFrom, goalsFrom, resolvedMoves}
+use Rattle.spec.specs.Layout.{Map, Placing, zoneOf, zoneAt}
+use Rattle.spec.specs.Arrangement.{Move}
 use Rattle.spec.specs.State as meaning
 use Rattle.spec.specs.ZoneKind.{canEnd}
 use Rattle.zones.specs.Kinds.{endMoves}
 use Rattle.spec.specs.Terms.{zoneCount, kindOf, placeOf, arrangementIn}
-use Rattle.theory.specs.Basics.Tests.{of-true, and-left, and-right}
 use Rattle.theory.specs.Maps.Layout.{Accepted}
 use Rattle.theory.specs.Maps.Placing.{Placed}
 use Rattle.theory.specs.Maps.Consistent.{Consistent}
-use Rattle.adjacency.specs.Rows.{Shows, bitAt, shows-joined}
+use Rattle.adjacency.specs.Rows.{Shows}
 use Rattle.motion.specs.Coupling.{Listed}
 use Rattle.zones.specs.Tables.{Tables, verticesIn, zone-listed, zone-small}
 use Rattle.wire.specs.Payload.{payload}
-use Rattle.resolve.specs.Tests.{numbered, crosses, Passes}
+use Rattle.resolve.specs.Tests.{Passes}
 
 -- an accepted map m of n vertices, whose tables and rows these are, for k robots
 pub record Given (m : Map) (n k : ℕ) (kind first size listed zone place : List ℕ) (rows : List (List ℕ)) : Type 0 where
@@ -31,17 +28,6 @@ pub record Given (m : Map) (n k : ℕ) (kind first size listed zone place : List
   pub few : k ≤ 64
   pub tables : Tables m kind first size listed zone place
   pub edges : Shows rows (m .edges)
-
--- the tables and rows are some accepted map's
-pub record Shown (n k : ℕ) (kind first size listed zone place : List ℕ) (rows : List (List ℕ)) : Type 0 where
-  pub map : Map
-  pub given : Given map n k kind first size listed zone place rows
-
--- the same, with a state of its robots
-pub record Started (n k : ℕ) (kind first size listed zone place : List ℕ) (rows : List (List ℕ)) (s : meaning.State) : Type 0 where
-  pub map : Map
-  pub given : Given map n k kind first size listed zone place rows
-  pub consistent : Consistent map k s
 
 -- the step at offset o of the payload in the file f passed its tests in state s, with a follow list of e bytes
 pub record Stepping (f : List ℕ) (o e : ℕ) (kind first size listed zone place : List ℕ) (s : meaning.State) : Type 0 where
@@ -54,6 +40,20 @@ pub record Stepping (f : List ℕ) (o e : ℕ) (kind first size listed zone plac
   pub len : ℕ
   pub most : len ≤ length f / 512 * 504
   pub passes : Passes map k (take len (payload f)) o s e
+
+-- the tables are those of some accepted map, and from the state s of its robots `count` steps of the payload in the file f pass
+pub record Started (f : List ℕ) (count : ℕ) (kind first size listed zone place : List ℕ) (s : meaning.State) : Type 0 where
+  pub map : Map
+  pub n : ℕ
+  pub k : ℕ
+  pub rows : List (List ℕ)
+  pub given : Given map n k kind first size listed zone place rows
+  pub consistent : Consistent map k s
+  pub len : ℕ
+  pub most : len ≤ length f / 512 * 504
+  pub two : 2 ≤ len
+  pub ran : Ran
+  pub pass : stepsFrom map k (take len (payload f)) count 0 2 s ≡ ok ran
 
 -- the tables are those of some accepted map of `zones` zones, with a state of its robots
 pub record Goaled (zones : ℕ) (kind first size listed : List ℕ) (s : meaning.State) : Type 0 where
@@ -81,6 +81,17 @@ pub record Placement (n zones k : ℕ) (kind first size listed zone place : List
   pub placed : Placed (map .size) placing
   pub on-starts : placing .starts ≡ take k starts
   pub on-goals : placing .goals ≡ take k goals
+
+-- the tables are some accepted map's, with a placing on it, and the plan whose payload stands in the file f is cleared
+pub record Cleared (f : List ℕ) (zones k : ℕ) (kind first size listed zone place starts goals : List ℕ) : Type 0 where
+  pub n : ℕ
+  pub rows : List (List ℕ)
+  pub on : Placement n zones k kind first size listed zone place rows starts goals
+  pub len : ℕ
+  pub most : len ≤ length f / 512 * 504
+  pub few : len ≤ 32256
+  pub moves : List Move
+  pub resolved : resolvedMoves (on .map) (on .placing) (take len (payload f)) ≡ ok moves
 
 -- ---- what the tables say
 
@@ -165,64 +176,3 @@ module _ (m : Map) (n k : ℕ) (kind first size listed zone place : List ℕ) (r
       there = rw (vertices-is, place-is) (d .accepted .placed v small .vertex);
       here = has-zone (getD zone v 0) in-range;
     }
-
-  -- ---- the crossing
-
-  -- the rows say which vertices are joined
-  joined-is : (u v : ℕ) → joined m u v ≡ bitAt rows u v
-  unfolding joined
-  joined-is u v = sym (shows-joined rows (m .edges) (d .edges) u v)
-
-  -- there is no edge
-  pub crosses-none : (u v : ℕ) → bitAt rows u v ≡ false → false ≡ crosses m u v
-  unfolding crosses _&&_
-  crosses-none u v e = rw (joined-is u v, e)
-
-  module _ (u v : ℕ) (hu : u < n) (hv : v < n) (e : bitAt rows u v ≡ true) where
-    -- the zone of from
-    zone-u : getD zone u 0 ≡ zoneOf m u
-    zone-u = zone-is u hu
-
-    -- the zone of to
-    zone-v : getD zone v 0 ≡ zoneOf m v
-    zone-v = zone-is v hv
-
-    -- it stays in the zone
-    pub crosses-inside : getD zone u 0 ≡ getD zone v 0 → false ≡ crosses m u v
-    unfolding crosses _&&_ not
-    crosses-inside q = rw (joined-is u v, e, eq-eqb (zoneOf m u) (zoneOf m v) (sym zone-u ∙ q ∙ zone-v))
-
-    -- it leads to another
-    pub crosses-over : (getD zone u 0 ≡ getD zone v 0 → ⊥) → true ≡ crosses m u v
-    unfolding crosses _&&_ not
-    crosses-over q = rw (joined-is u v, e, ne-eqb (zoneOf m u) (zoneOf m v) (λ z. q (zone-u ∙ z ∙ sym zone-v)))
-
--- ---- the numbers of a step
-
-module _ (n k r u v : ℕ) where
-  -- the robot is none of k
-  pub numbered-robot : k ≤ r → false ≡ numbered n k r u v
-  unfolding numbered _&&_
-  numbered-robot h = rw (le-ltb r k h)
-
-  -- from is none of the vertices
-  pub numbered-from : r < k → n ≤ u → false ≡ numbered n k r u v
-  unfolding numbered _&&_
-  numbered-from h l = rw (lt-ltb r k h, le-ltb u n l)
-
-  -- to is none of the vertices
-  pub numbered-to : r < k → u < n → n ≤ v → false ≡ numbered n k r u v
-  unfolding numbered _&&_
-  numbered-to h l x = rw (lt-ltb r k h, lt-ltb u n l, le-ltb v n x)
-
-  -- all are there
-  pub numbered-all : r < k → u < n → v < n → true ≡ numbered n k r u v
-  unfolding numbered _&&_
-  numbered-all h l x = rw (lt-ltb r k h, lt-ltb u n l, lt-ltb v n x)
-
-  -- what that says
-  pub numbers-below : numbered n k r u v ≡ true → (r < k) × (u < n) × (v < n)
-  unfolding numbered
-  numbers-below e =
-      let t = of-true e in
-      (ltb→lt _ _ (and-left _ _ t), ltb→lt _ _ (and-left _ _ (and-right _ _ t)), ltb→lt _ _ (and-right _ _ (and-right _ _ t)))

@@ -1,7 +1,6 @@
--- What the walk of a plan does, test by test and step by step, and the laws that tie it to the written meanings.
+-- What the walk of a plan does, step by step, and the laws that tie it to the written meanings.
 pub mod Tests
 pub mod Alone
-pub mod Fault
 pub mod Given
 pub mod Held
 pub mod Walk

@@ -1,15 +1,13 @@
--- A step by the tables and by the bytes of the file: its tests, and what its moves need.
+-- A step by the tables and by the bytes of the file: what its moves need.
 use mathlib.Core.Path.{_≡_, refl, sym, ap, _∙_}
 use mathlib.Core.Bool.{Bool, true, false}
 use mathlib.Core.List.{List, [], _∷_}
-use Prim.Native.Nat.{ℕ, suc, _+_, _-_, _*_, _/_, _<_, _≤_}
+use Prim.Native.Nat.{ℕ, suc, _+_, _*_, _/_, _<_, _≤_}
 use native.Mathlib.Omega.{arith}
 use lib.ListN.{length, getD, take, drop}
 use lib.Dec.{eqb, eqb→eq}
-use mathlib.Core.Logic.{⊎-elim}
-use types.Run.{OneOf}
-use Rattle.spec.specs.Outcome.{Outcome, ok, refuse, _&&_}
-use Rattle.spec.specs.Layout.{Map, zoneOf, zoneAt}
+use Rattle.spec.specs.Outcome.{ok, _&&_}
+use Rattle.spec.specs.Layout.{zoneOf, zoneAt}
 use Rattle.spec.specs.Arrangement.{mv, cell, lastFree}
 use Rattle.spec.specs.State.{State, robotOn, arrangementOf, across, movedAll}
 use Rattle.spec.specs.ZoneKind.{behindOf, canLeave, canEnter}
@@ -31,76 +29,14 @@ use Rattle.motion.specs.Reading.{robot-here, empty-here}
 use Rattle.clique.specs.Entering.{Numbered, numbered-none, entered-numbered}
 use Rattle.zones.specs.Kinds.{leaveMoves, enterMoves, clique-can-enter}
 use Rattle.zones.specs.Ready.{leave-ready, enter-ready}
-use Rattle.resolve.specs.Tests.{testOf, tests-passed, numbered, crosses, entryTests, stepTests, stepMoves, Passes, tests-number, tests-edge, tests-leave, tests-enter}
-use Rattle.resolve.specs.Given.{Given, Shown, Stepping, HasVertex, kindAt, verticesAt, has-vertex, kind-is, vertices-is, place-is, numbers-below}
+use Rattle.resolve.specs.Tests.{tests-passed, stepTests, stepMoves, Passes}
+use Rattle.resolve.specs.Given.{Started, Stepping, HasVertex, kindAt, verticesAt, has-vertex, kind-is, vertices-is, place-is}
 use Rattle.resolve.specs.Held.{heldPart, held-same, extra-most}
-use Rattle.resolve.specs.Walk.{entered-kept, step-made, Walking, WalkOf, walk-more, walk-refused}
-use Rattle.resolve.specs.declared.StepTest.{StepTest}
-use Rattle.resolve.specs.declared.StepTest.the-variants as step
-use Rattle.resolve.specs.declared.PlanFault.{PlanFault}
-use Rattle.resolve.specs.declared.PlanFault.the-variants as plan
+use Rattle.resolve.specs.Walk.{entered-kept, step-made, Walking, walk-more, walk-passes}
 
 -- a byte of the payload that the code read in the file
 pub byte-is : (f : List ℕ) (len o x : ℕ) → len ≤ length f / 512 * 504 → o < len → x ≡ getD f (wire.placeOf o) 0 → x ≡ getD (take len (payload f)) o 0
 byte-is f len o x most h e = e ∙ sym (held-byte f len most o h)
-
--- ---- the tests
-
--- numbers that are below let the tables be read
-pub shown-vertices : (n k : ℕ) (kind first size listed zone place : List ℕ) (rows : List (List ℕ)) → Shown n k kind first size listed zone place rows → (r u v : ℕ) → true ≡ numbered n k r u v
-    → HasVertex first size listed zone place u × HasVertex first size listed zone place v
-shown-vertices n k kind first size listed zone place rows d r u v e =
-    let b = numbers-below n k r u v (sym e) in
-    (has-vertex (d .map) n k kind first size listed zone place rows (d .given) u (b .1), has-vertex (d .map) n k kind first size listed zone place rows (d .given) v (b .2))
-
-module _ (m : Map) (n k : ℕ) (kind first size listed zone place : List ℕ) (rows : List (List ℕ)) (d : Given m n k kind first size listed zone place rows)
-    (f : List ℕ) (len : ℕ) (most : len ≤ length f / 512 * 504) (i o : ℕ) (h : o + 4 ≤ len) (s : State) (r u v behind : ℕ)
-    (er : r ≡ getD f (wire.placeOf o) 0) (eu : u ≡ getD f (wire.placeOf (o + 1)) 0) (ev : v ≡ getD f (wire.placeOf (o + 2)) 0) (eb : behind ≡ getD f (wire.placeOf (o + 3)) 0) where
-  -- the four bytes are there
-  long : o + 4 ≤ length (take len (payload f))
-  long = omega (arith, held-length f len most)
-
-  -- the numbers are below those of the map
-  sized : numbered n k r u v ≡ numbered (m .size) k r u v
-  sized = ap (λ (x : ℕ). numbered x k r u v) (sym (d .vertices))
-
-  -- a number is too large
-  pub step-number : false ≡ numbered n k r u v → refuse 36 i ≡ stepTests m k (take len (payload f)) i o s
-  step-number e = tests-number m k (take len (payload f)) i o s r u v behind (byte-is f len o r most (omega arith) er) (byte-is f len (o + 1) u most (omega arith) eu)
-      (byte-is f len (o + 2) v most (omega arith) ev) (byte-is f len (o + 3) behind most (omega arith) eb) long (sym (e ∙ sized))
-
-  module _ (a : true ≡ numbered n k r u v) where
-    -- no edge, or the same zone
-    pub step-edge : false ≡ crosses m u v → refuse 37 i ≡ stepTests m k (take len (payload f)) i o s
-    step-edge e = tests-edge m k (take len (payload f)) i o s r u v behind (byte-is f len o r most (omega arith) er) (byte-is f len (o + 1) u most (omega arith) eu)
-        (byte-is f len (o + 2) v most (omega arith) ev) (byte-is f len (o + 3) behind most (omega arith) eb) long (sym (a ∙ sized)) (sym e)
-
-    module _ (b : true ≡ crosses m u v) where
-      -- leaving, by the tables
-      left : canLeave (kindAt kind zone u) (arrangementOf s (verticesAt first size listed zone u)) r (getD place u 0)
-          ≡ canLeave (kindOf m (zoneOf m u)) (arrangementIn m s (zoneOf m u)) r (placeOf m u)
-      left =
-          let x = numbers-below n k r u v (sym a) in
-          rw (kind-is m n k kind first size listed zone place rows d u (x .1), vertices-is m n k kind first size listed zone place rows d u (x .1), place-is m n k kind first size listed zone place rows d u (x .1))
-
-      -- entering, by the tables
-      entered : (i o r behind : ℕ) → entryTests (kindAt kind zone v) (arrangementOf s (verticesAt first size listed zone v)) (take len (payload f)) i o r (getD place v 0) behind
-          ≡ entryTests (kindOf m (zoneOf m v)) (arrangementIn m s (zoneOf m v)) (take len (payload f)) i o r (placeOf m v) behind
-      entered i o r behind =
-          let x = numbers-below n k _ u v (sym a) in
-          rw (kind-is m n k kind first size listed zone place rows d v (x .2), vertices-is m n k kind first size listed zone place rows d v (x .2), place-is m n k kind first size listed zone place rows d v (x .2))
-
-      -- the robot can't leave there
-      pub step-leave : false ≡ canLeave (kindAt kind zone u) (arrangementOf s (verticesAt first size listed zone u)) r (getD place u 0) → refuse 38 i ≡ stepTests m k (take len (payload f)) i o s
-      step-leave e = tests-leave m k (take len (payload f)) i o s r u v behind (byte-is f len o r most (omega arith) er) (byte-is f len (o + 1) u most (omega arith) eu)
-          (byte-is f len (o + 2) v most (omega arith) ev) (byte-is f len (o + 3) behind most (omega arith) eb) long (sym (a ∙ sized)) (sym b) (sym (e ∙ left))
-
-      -- what is left is the entry
-      pub step-enter : (x : Outcome ℕ) → true ≡ canLeave (kindAt kind zone u) (arrangementOf s (verticesAt first size listed zone u)) r (getD place u 0)
-          → x ≡ entryTests (kindAt kind zone v) (arrangementOf s (verticesAt first size listed zone v)) (take len (payload f)) i o r (getD place v 0) behind → x ≡ stepTests m k (take len (payload f)) i o s
-      step-enter x e t = t ∙ entered i o r behind
-          ∙ tests-enter m k (take len (payload f)) i o s r u v behind (byte-is f len o r most (omega arith) er) (byte-is f len (o + 1) u most (omega arith) eu)
-          (byte-is f len (o + 2) v most (omega arith) ev) (byte-is f len (o + 3) behind most (omega arith) eb) long (sym (a ∙ sized)) (sym b) (sym (e ∙ left))
 
 -- ---- the moves
 
@@ -275,61 +211,67 @@ module _ (f : List ℕ) (o e : ℕ) (kind first size listed zone place : List �
 
 -- ---- a walk's steps
 
--- a test that passed
-pub test-passed : (i : ℕ) (t : StepTest) (e : ℕ) (x : Outcome ℕ) → testOf i t ≡ x → t ≡ step.Passed e → x ≡ ok e
-test-passed i t e x h q = sym h ∙ ap (testOf i) q
+module _ (f : List ℕ) (count : ℕ) (kind first size listed zone place : List ℕ) (w₀ : World) (x : Started f count kind first size listed zone place (w₀ .state)) (i o : ℕ) (w : World)
+    (g : Walking (x .map) (x .k) (take (x .len) (payload f)) count w₀ i o w) (h : i < count) where
+  -- the next step passes, with a follow list of some length
+  next-passes : (e : ℕ) × (stepTests (x .map) (x .k) (take (x .len) (payload f)) i o (w .state) ≡ ok e)
+  next-passes = walk-passes (x .map) (x .given .accepted) (x .k) (x .given .few) (take (x .len) (payload f)) count w₀ i o w g h (x .ran) (x .pass)
 
--- the refusal of step i that did not pass
-abbrev pub refusalOf : ℕ → StepTest → PlanFault
-refusalOf i (step.Passed e) = plan.None
-refusalOf i step.Short = plan.Short i
-refusalOf i step.Number = plan.Number i
-refusalOf i step.Edge = plan.Edge i
-refusalOf i step.Leave = plan.Leave i
-refusalOf i step.Enter = plan.Enter i
+  -- what that says
+  next-passed : Passes (x .map) (x .k) (take (x .len) (payload f)) o (w .state) (next-passes .0)
+  next-passed = tests-passed (x .map) (x .k) (take (x .len) (payload f)) i o (w .state) (next-passes .0) (next-passes .1)
 
-module _ (m : Map) (n k : ℕ) (kind first size listed zone place : List ℕ) (rows : List (List ℕ)) (d : Given m n k kind first size listed zone place rows)
-    (f : List ℕ) (len : ℕ) (most : len ≤ length f / 512 * 504) (count : ℕ) (w₀ : World) (i o : ℕ) (w : World) (g : Walking m k (take len (payload f)) count w₀ i o w) where
-  -- the next step is in the payload
-  pub walking-offset : o ≤ len
-  walking-offset = omega (arith, g .offset, held-length f len most)
+  -- its four bytes are in the payload
+  four : o + 4 ≤ x .len
+  four = omega (arith, next-passed .long, held-length f (x .len) (x .most))
 
-  module _ (t : StepTest) (h : testOf i t ≡ stepTests m k (take len (payload f)) i o (w .state)) where
-    -- a step that passed
-    pub walking-passes : (e : ℕ) → t ≡ step.Passed e → Passes m k (take len (payload f)) o (w .state) e
-    walking-passes e q = tests-passed m k (take len (payload f)) i o (w .state) e (test-passed i t e _ h q)
+  -- and in the file
+  pub next-room : o + 4 ≤ length f / 512 * 504
+  next-room = omega (arith, four, x .most)
 
-    -- what it needs
-    pub walking-step : (e : ℕ) → t ≡ step.Passed e → Stepping f o e kind first size listed zone place (w .state)
-    walking-step e q = record {
-      map = m;
-      n = n;
-      k = k;
-      rows = rows;
-      given = d;
-      consistent = g .consistent;
-      len = len;
-      most = most;
-      passes = walking-passes e q;
-    }
+  module _ (b : Four) (r : FourAt f o b) where
+    -- its target
+    target : b .third ≡ getD (take (x .len) (payload f)) (o + 2) 0
+    target = byte-is f (x .len) (o + 2) (b .third) (x .most) (omega (arith, four)) (r .third)
 
-    -- its moves are made
-    pub walking-next : (e : ℕ) → t ≡ step.Passed e → (u : World) → i < count → u ≡ madeAll w (stepMoves m (take len (payload f)) o e (w .state))
-        → Walking m k (take len (payload f)) count w₀ (i + 1) (o + 4 + e) u
-    walking-next e q u l x = walk-more m (d .accepted) k (d .few) (take len (payload f)) count w₀ i o w g e u l (test-passed i t e _ h q) x
+    -- is one of the map's vertices
+    target-small : b .third < x .n
+    target-small = omega (arith, next-passed .taken .to, x .given .vertices, target)
 
-    -- a step that did not pass is refused
-    pub walking-stop : ((e : ℕ) → t ≡ step.Passed e → ⊥) → i < count → WalkOf m k (take len (payload f)) count w₀ (refusalOf i t) o w
-    walking-stop z l = stop t z h
-      where
-        stop : (t : StepTest) → ((e : ℕ) → t ≡ step.Passed e → ⊥) → testOf i t ≡ stepTests m k (take len (payload f)) i o (w .state) → WalkOf m k (take len (payload f)) count w₀ (refusalOf i t) o w
-        stop (step.Passed e) z h = absurd (z e refl)
-        stop step.Short z h = walk-refused m (d .accepted) k (d .few) (take len (payload f)) count w₀ i o w g (plan.Short i) 35 o l (sym h) (λ r. refl)
-        stop step.Number z h = walk-refused m (d .accepted) k (d .few) (take len (payload f)) count w₀ i o w g (plan.Number i) 36 o l (sym h) (λ r. refl)
-        stop step.Edge z h = walk-refused m (d .accepted) k (d .few) (take len (payload f)) count w₀ i o w g (plan.Edge i) 37 o l (sym h) (λ r. refl)
-        stop step.Leave z h = walk-refused m (d .accepted) k (d .few) (take len (payload f)) count w₀ i o w g (plan.Leave i) 38 o l (sym h) (λ r. refl)
-        stop step.Enter z h = walk-refused m (d .accepted) k (d .few) (take len (payload f)) count w₀ i o w g (plan.Enter i) 39 o l (sym h) (λ r. refl)
+    -- and in the tables
+    pub next-to : HasVertex first size listed zone place (b .third)
+    next-to = has-vertex (x .map) (x .n) (x .k) kind first size listed zone place (x .rows) (x .given) (b .third) target-small
 
--- one of the other variants did not pass
-pub other-tag : (x : ℕ) → OneOf (1 ∷ 2 ∷ 3 ∷ 4 ∷ 5 ∷ []) x → x ≡ 0 → ⊥
-other-tag x h e = ⊎-elim (λ a. omega arith) (⊎-elim (λ a. omega arith) (⊎-elim (λ a. omega arith) (⊎-elim (λ a. omega arith) (λ a. omega arith)))) h
+    module _ (e : ℕ) (q : e ≡ extraOf (kindAt kind zone (b .third)) (arrangementOf (w .state) (verticesAt first size listed zone (b .third)))) where
+      -- the length of its follow list is the one by the tables
+      same : next-passes .0 ≡ e
+      same =
+          let k1 = kind-is (x .map) (x .n) (x .k) kind first size listed zone place (x .rows) (x .given) (b .third) target-small in
+          let v1 = vertices-is (x .map) (x .n) (x .k) kind first size listed zone place (x .rows) (x .given) (b .third) target-small in
+          next-passed .extra ∙ sym (rw (k1, v1, target) at q)
+
+      -- so it passes with that
+      tests : stepTests (x .map) (x .k) (take (x .len) (payload f)) i o (w .state) ≡ ok e
+      tests = next-passes .1 ∙ ap (λ (t : ℕ). ok t) same
+
+      -- with the facts that its moves need
+      pub next-is : Passes (x .map) (x .k) (take (x .len) (payload f)) o (w .state) e
+      next-is = tests-passed (x .map) (x .k) (take (x .len) (payload f)) i o (w .state) e tests
+
+      -- which are those of the code that makes them
+      pub next-step : Stepping f o e kind first size listed zone place (w .state)
+      next-step = record {
+        map = x .map;
+        n = x .n;
+        k = x .k;
+        rows = x .rows;
+        given = x .given;
+        consistent = g .consistent;
+        len = x .len;
+        most = x .most;
+        passes = next-is;
+      }
+
+      -- its moves are made
+      pub next-made : (u : World) → u ≡ madeAll w (stepMoves (x .map) (take (x .len) (payload f)) o e (w .state)) → Walking (x .map) (x .k) (take (x .len) (payload f)) count w₀ (i + 1) (o + 4 + e) u
+      next-made u z = walk-more (x .map) (x .given .accepted) (x .k) (x .given .few) (take (x .len) (payload f)) count w₀ i o w g e u h tests z

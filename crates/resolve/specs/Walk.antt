@@ -11,7 +11,7 @@ use Rattle.spec.specs.ZoneKind.{leave}
 use Rattle.spec.specs.State.{State, movedAll}
 use Rattle.spec.specs.Run.{Ran, stepAt, stepsFrom}
 use Rattle.spec.specs.Terms.{arrangementIn, kindOf, placeOf}
-use Rattle.theory.specs.Basics.Outcomes.{bind}
+use Rattle.theory.specs.Basics.Outcomes.{bind, bound}
 use Rattle.theory.specs.Maps.Layout.{Accepted}
 use Rattle.theory.specs.Maps.Cells.{arrangement-length}
 use Rattle.theory.specs.Maps.Consistent.{Consistent, consistent-all}
@@ -22,9 +22,6 @@ use Rattle.theory.specs.Plans.Step.{proper, made}
 use Rattle.motion.specs.World.{World, madeAll, made-append, made-one, state-is}
 use Rattle.motion.specs.World as world
 use Rattle.resolve.specs.Tests.{stepTests, stepMoves, stepRan, step-tests, tests-passed}
-use Rattle.resolve.specs.Fault.{faultOf}
-use Rattle.resolve.specs.declared.PlanFault.{PlanFault}
-use Rattle.resolve.specs.declared.PlanFault.the-variants as plan
 
 -- what steps come to, with moves made before them
 unfoldable pub after : List Move → Outcome Ran → Outcome Ran
@@ -42,11 +39,6 @@ unfolding after _>>=_
 after-after ms ns (ok ran) = ap (λ (l : List Move). ok (record { state = ran .state; moves = l; next = ran .next })) (sym (append-assoc ms ns (ran .moves)))
 after-after ms ns (refuse n i) = refl
 
--- a refusal stands
-after-refused : (ms : List Move) (n i : ℕ) → after ms (refuse n i) ≡ refuse n i
-unfolding after _>>=_
-after-refused ms n i = refl
-
 -- one step of the definition, and those after it
 steps-next : (m : Map) (k : ℕ) (p : List ℕ) (todo i o : ℕ) (s : State) (e : ℕ) → stepTests m k p i o s ≡ ok e
     → stepsFrom m k p (suc todo) i o s ≡ after (stepMoves m p o e s) (stepsFrom m k p todo (i + 1) (o + 4 + e) (movedAll s (stepMoves m p o e s)))
@@ -54,10 +46,13 @@ unfolding stepsFrom after
 steps-next m k p todo i o s e t =
     bind (stepAt m k p i o s) (stepRan m p o e s) _ (step-tests m k p i o s ∙ bind (stepTests m k p i o s) e _ t)
 
--- a step that fails is the refusal
-steps-refused : (m : Map) (k : ℕ) (p : List ℕ) (todo i o : ℕ) (s : State) (n : ℕ) → stepTests m k p i o s ≡ refuse n i → stepsFrom m k p (suc todo) i o s ≡ refuse n i
-unfolding stepsFrom _>>=_
-steps-refused m k p todo i o s n t = rw (step-tests m k p i o s, t)
+-- steps that pass begin with one that does
+steps-passed : (m : Map) (k : ℕ) (p : List ℕ) (todo i o : ℕ) (s : State) (ran : Ran) → stepsFrom m k p (suc todo) i o s ≡ ok ran → (e : ℕ) × (stepTests m k p i o s ≡ ok e)
+unfolding stepsFrom
+steps-passed m k p todo i o s ran q =
+    let a = bound _ _ _ q in
+    let b = bound (stepTests m k p i o s) (λ e. ok (stepRan m p o e s)) _ (sym (step-tests m k p i o s) ∙ a .1) in
+    (b .0, b .1)
 
 -- ---- the moves of one step
 
@@ -93,12 +88,12 @@ pub record Walking (m : Map) (k : ℕ) (p : List ℕ) (n : ℕ) (w₀ : World) (
   pub consistent : Consistent m k (w .state)
   pub all : stepsFrom m k p n 0 2 (w₀ .state) ≡ after moves (stepsFrom m k p (n - i) i o (w .state))
 
--- what a walk of n steps comes to
-pub record WalkOf (m : Map) (k : ℕ) (p : List ℕ) (n : ℕ) (w₀ : World) (f : PlanFault) (next : ℕ) (w : World) : Type 0 where
+-- what a walk of n steps that all pass comes to
+pub record WalkOf (m : Map) (k : ℕ) (p : List ℕ) (n : ℕ) (w₀ w : World) (next : ℕ) : Type 0 where
   pub moves : List Move
   pub reached : w ≡ madeAll w₀ moves
   pub consistent : Consistent m k (w .state)
-  pub answer : faultOf f (record { state = w .state; moves = moves; next = next }) ≡ stepsFrom m k p n 0 2 (w₀ .state)
+  pub answer : stepsFrom m k p n 0 2 (w₀ .state) ≡ ok (record { state = w .state; moves = moves; next = next })
 
 -- a walk that was given up, since more moves were made than a list holds: they come before all others
 pub record OverOf (m : Map) (k : ℕ) (p : List ℕ) (n : ℕ) (w₀ w : World) : Type 0 where
@@ -123,8 +118,8 @@ module _ (m : Map) (g : Accepted m) (k : ℕ) (few : k ≤ 64) (p : List ℕ) (n
 
   module _ (i o : ℕ) (w : World) (d : Walking m k p n w₀ i o w) where
     -- what is left begins with step i
-    next : i < n → stepsFrom m k p n 0 2 (w₀ .state) ≡ after (d .moves) (stepsFrom m k p (suc (n - (i + 1))) i o (w .state))
-    next h = let e : n - i ≡ suc (n - (i + 1)) = omega arith in d .all ∙ ap (λ (t : ℕ). after (d .moves) (stepsFrom m k p t i o (w .state))) e
+    pub walk-left : i < n → stepsFrom m k p n 0 2 (w₀ .state) ≡ after (d .moves) (stepsFrom m k p (suc (n - (i + 1))) i o (w .state))
+    walk-left h = let e : n - i ≡ suc (n - (i + 1)) = omega arith in d .all ∙ ap (λ (t : ℕ). after (d .moves) (stepsFrom m k p t i o (w .state))) e
 
     -- a step that passes
     pub walk-more : (e : ℕ) (u : World) → i < n → stepTests m k p i o (w .state) ≡ ok e → u ≡ madeAll w (stepMoves m p o e (w .state))
@@ -140,28 +135,25 @@ module _ (m : Map) (g : Accepted m) (k : ℕ) (few : k ≤ 64) (p : List ℕ) (n
           reached = q ∙ ap (λ (y : World). madeAll y ms) (d .reached) ∙ sym (made-append w₀ (d .moves) ms);
           consistent = rw z (consistent-all m g k (d .consistent) (made m g k few (w .state) (d .consistent) _ _ _ _ _ (x .taken) .legals));
           all =
-              next h
+              walk-left h
               ∙ ap (after (d .moves)) (steps-next m k p (n - (i + 1)) i o (w .state) e t)
               ∙ after-after (d .moves) ms (stepsFrom m k p (n - (i + 1)) (i + 1) (o + 4 + e) (movedAll (w .state) ms))
               ∙ ap (λ (y : State). after (d .moves ++ ms) (stepsFrom m k p (n - (i + 1)) (i + 1) (o + 4 + e) y)) (sym z);
         }
 
-    -- a step that fails
-    pub walk-refused : (f : PlanFault) (a x : ℕ) → i < n → stepTests m k p i o (w .state) ≡ refuse a i
-        → ((r : Ran) → faultOf f r ≡ refuse a i) → WalkOf m k p n w₀ f x w
-    walk-refused f a x h t q = record {
-      moves = d .moves;
-      reached = d .reached;
-      consistent = d .consistent;
-      answer = q _ ∙ sym (next h ∙ ap (after (d .moves)) (steps-refused m k p (n - (i + 1)) i o (w .state) a t) ∙ after-refused (d .moves) a i);
-    }
+    -- the next step passes where all do
+    pub walk-passes : i < n → (ran : Ran) → stepsFrom m k p n 0 2 (w₀ .state) ≡ ok ran → (e : ℕ) × (stepTests m k p i o (w .state) ≡ ok e)
+    unfolding after
+    walk-passes h ran q =
+        let a = bound _ _ _ (sym (walk-left h) ∙ q) in
+        steps-passed m k p (n - (i + 1)) i o (w .state) (a .0) (a .1)
 
     -- too many moves were made
     pub walk-over : 21503 < w .count → OverOf m k p n w₀ w
     walk-over h = record { moves = d .moves; rest = stepsFrom m k p (n - i) i o (w .state); reached = d .reached; all = d .all; over = h }
 
     -- all steps passed
-    pub walk-end : n ≤ i → WalkOf m k p n w₀ plan.None o w
+    pub walk-end : n ≤ i → WalkOf m k p n w₀ w o
     unfolding stepsFrom after _>>=_
     walk-end h = record {
       moves = d .moves;
@@ -169,6 +161,6 @@ module _ (m : Map) (g : Accepted m) (k : ℕ) (few : k ≤ 64) (p : List ℕ) (n
       consistent = d .consistent;
       answer =
           let e : n - i ≡ 0 = omega arith in
-          sym (d .all ∙ ap (λ (t : ℕ). after (d .moves) (stepsFrom m k p t i o (w .state))) e
-          ∙ ap (λ (l : List Move). ok (record { state = w .state; moves = l; next = o })) (append-nil (d .moves)));
+          d .all ∙ ap (λ (t : ℕ). after (d .moves) (stepsFrom m k p t i o (w .state))) e
+          ∙ ap (λ (l : List Move). ok (record { state = w .state; moves = l; next = o })) (append-nil (d .moves));
     }

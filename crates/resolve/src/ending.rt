@@ -1,4 +1,4 @@
-// The goals, tested and reached zone by zone: "After the last step, zones in number order are brought to the goals."
+// The goals, reached zone by zone: "After the last step, zones in number order are brought to the goals."
 ghost use mathlib.Core.Path.{_≡_};
 ghost use mathlib.Core.Bool.{true};
 ghost use mathlib.Core.List.{List};
@@ -16,52 +16,7 @@ ghost use Rattle.motion.specs.Tables.{tabled, onVertices};
 ghost use Rattle.motion.specs.World.{worldIn, madeAll};
 ghost use Rattle.zones.specs.Kinds.{endMoves};
 ghost use Rattle.zones.specs.Tables.{verticesIn};
-ghost use Rattle.resolve.specs.Given.{Given, HasZone, Bringing, Goaled};
-ghost use Rattle.resolve.specs.Endings.{offZone};
-ghost use Rattle.resolve.specs.Whole.{FinishOf};
-use crate::PlanFault;
-use crate::Resolved;
-
-// Can zone z be brought to its goals?
-fn can_end_zone<'a>(
-    kind: &'a [u8; 64],
-    first: &'a [u8; 64],
-    size: &'a [u8; 64],
-    listed: &'a [u8],
-    z: usize,
-    robots: &[u8],
-    goals: &[u8],
-) -> bool
-    requires { ⌜ HasZone (now first) (now size) (now listed) z ⌝ }
-    ensures { λ b. ⌜ b ≡ canEnd (getD (now (kind .entry)) z 0) (arrangementOf (onVertices (now (robots .entry))) (verticesIn (now (first .entry)) (now (size .entry)) (now (listed .entry)) z)) (arrangementOf (onVertices (now (goals .entry))) (verticesIn (now (first .entry)) (now (size .entry)) (now (listed .entry)) z)) ⌝ }
-{
-    let a = first[z] as usize;
-    let e = a + size[z] as usize;
-    zones::can_end(kind[z], robots, &listed[a..e], goals)
-}
-
-// The lowest zone that can't be brought to its goals; the number of zones where there is none.
-fn off_zone<'a>(
-    kind: &'a [u8; 64],
-    first: &'a [u8; 64],
-    size: &'a [u8; 64],
-    listed: &'a [u8],
-    zones: usize,
-    robots: &[u8],
-    goals: &[u8],
-) -> usize
-    requires { ⌜ ((z : ℕ) → z < zones → HasZone (now first) (now size) (now listed) z) ⌝ }
-    ensures { λ r. ⌜ ((m : Map) (n k : ℕ) (zone place : List ℕ) (rows : List (List ℕ)) → Given m n k (now (kind .entry)) (now (first .entry)) (now (size .entry)) (now (listed .entry)) zone place rows → zoneCount m ≡ zones → offZone r zones ≡ goalsFrom 0 (m .zones) (onVertices (now (robots .entry))) (onVertices (now (goals .entry)))) ⌝ }
-{
-    let mut z: usize = 0;
-    while z < zones {
-        if !can_end_zone(kind, first, size, listed, z, robots, goals) {
-            return z;
-        }
-        z += 1;
-    }
-    z
-}
+ghost use Rattle.resolve.specs.Given.{Given, HasZone, Bringing};
 
 // The moves that bring zone z to its goals, which can be reached.
 fn end_zone<'a>(
@@ -88,7 +43,7 @@ fn end_zone<'a>(
 }
 
 // The moves that bring every zone to its goals, which can be reached.
-fn end_zones<'a>(
+pub fn end_zones<'a>(
     robots: &mut [u8],
     vertices: &mut [u8],
     count: usize,
@@ -121,47 +76,4 @@ fn end_zones<'a>(
         z += 1;
     }
     made
-}
-
-// 50, or the moves that bring every zone to its goals, with the count of all moves.
-pub fn finish<'a>(
-    robots: &mut [u8],
-    vertices: &mut [u8],
-    count: usize,
-    kind: &'a [u8; 64],
-    first: &'a [u8; 64],
-    size: &'a [u8; 64],
-    listed: &'a [u8],
-    zones: usize,
-    goals: &[u8],
-    out: &mut [u8],
-) -> Resolved
-    requires { ⌜ Goaled zones (now kind) (now first) (now size) (now listed) (tabled (now robots) (now vertices)) ⌝ }
-    ensures { λ r. ⌜ ((m : Map) (n k : ℕ) (zone place : List ℕ) (rows : List (List ℕ)) → Given m n k (now (kind .entry)) (now (first .entry)) (now (size .entry)) (now (listed .entry)) zone place rows → zoneCount m ≡ zones → Consistent m k (tabled (now (robots .entry)) (now (vertices .entry))) → FinishOf m (onVertices (now (goals .entry))) (worldIn (now (robots .entry)) (now (vertices .entry)) count (now (out .entry))) r (now (out .exit))) ⌝ }
-{
-    let z = off_zone(kind, first, size, listed, zones, robots, goals);
-    if z < zones {
-        return Resolved {
-            fault: PlanFault::Goal(z),
-            over: false,
-            count: 0,
-        };
-    }
-    let made = end_zones(
-        robots,
-        vertices,
-        count,
-        kind,
-        first,
-        size,
-        listed,
-        zones,
-        goals,
-        out,
-    );
-    Resolved {
-        fault: PlanFault::None,
-        over: false,
-        count: made,
-    }
 }

@@ -3,7 +3,7 @@ use native.Mathlib.Omega.{arith}
 use mathlib.Core.Path.{refl, sym}
 use mathlib.Core.List.{[]}
 use Rattle.checking.specs.Checked.{held-as}
-use Rattle.galzpuna.specs.Planned.{planned-yard, planned-file, planned-judged, yard-given, yard-placement, len-few}
+use Rattle.galzpuna.specs.Planned.{planned-yard, planned-file, planned-judged, yard-given, yard-placement}
 use borrow.Author.Needs.{needs}
 use Rattle.galzpuna.proofs.files.judge_checked.Statement.{statement}
 use Rattle.galzpuna.proofs.files.judge_checked.Tie as tie
@@ -35,7 +35,7 @@ returns-2 c =
 judge-on-requires : tie.Need-judge-on-requires
 judge-on-requires c κs =
     let w = held-as _ _ _ _ (c .before .before .before .before .before .before .before .check-file .ensures .1) (c .before .before .before .before .before .before .of-plan-file .ensures .1 (c .before .before .before .before .if2 .left)) in
-    ((w .most, len-few _ _ w), yard-placement _ _ _ _ _ (c .before .before .before .before .before .before .before .before .before .before .before .read-yard .ensures .read (c .before .before .before .before .before .before .before .before .if1 .left)))
+    (w .most, yard-placement _ _ _ _ _ (c .before .before .before .before .before .before .before .before .before .before .before .read-yard .ensures .read (c .before .before .before .before .before .before .before .before .if1 .left)))
 
 of-plan-requires : tie.Need-of-plan-requires
 of-plan-requires c κs = search needs
@@ -45,7 +45,7 @@ returns-3 c =
     let a = c .before .before .before .before .before .before .before .before .before .before .before .before .before .before .before .before .before .before .args in
     let d = c .before .before .before .before .before .before .before .before .before .before .before .before .before .read-yard .ensures .read (c .before .before .before .before .before .before .before .before .before .before .if1 .left) in
     let t = c .before .judge-on .ensures (d .it .graph) (d .it .placing) (yard-given _ _ _ _ _ d) (sym (d .held .count)) (d .placed) (sym (d .robots .starts)) (sym (d .robots .goals)) in
-    planned-judged (a .map .now) (a .placed .now) (a .plan .now) [] _ _ _ d (λ i. omega (arith, c .before .before .before .before .before .before .before .before .before .before .before .before .before .before .before .shared-slice-known3 .given i)) _ (c .before .before .before .before .before .before .before .before .before .check-file .ensures .0 30) (c .before .before .before .before .before .before .before .before .of-plan-file .result .number) (c .before .before .before .before .before .before .before .before .of-plan-file .result .place) (c .before .before .before .before .before .before .before .before .of-plan-file .ensures .0 _) (c .before .before .before .before .before .before .if2 .left) _ t (c .of-plan .result .number) (c .of-plan .result .place) (c .of-plan .ensures .0) (c .of-plan .ensures .1)
+    planned-judged (a .map .now) (a .placed .now) (a .plan .now) [] _ _ _ d (λ i. omega (arith, c .before .before .before .before .before .before .before .before .before .before .before .before .before .before .before .shared-slice-known3 .given i)) _ (c .before .before .before .before .before .before .before .before .before .check-file .ensures .0 30) (c .before .before .before .before .before .before .before .before .of-plan-file .result .number) (c .before .before .before .before .before .before .before .before .of-plan-file .result .place) (c .before .before .before .before .before .before .before .before .of-plan-file .ensures .0 _) (c .before .before .before .before .before .before .if2 .left) _ t (c .of-plan .result .number) (c .of-plan .result .place) (c .of-plan .ensures .0)
 
 pub judge-checked-spec : {M : Type 1} → statement M
 judge-checked-spec =

@@ -2,7 +2,7 @@ use borrow.Author.Needs.{needs}
 use native.Mathlib.Omega.{arith}
 use mathlib.Core.Path.{refl, sym}
 use Rattle.checking.specs.Checked.{held-as}
-use Rattle.galzpuna.specs.Planned.{planned-yard, planned-file, planned-refused, planned-cleared, yard-given, yard-placement, len-few}
+use Rattle.galzpuna.specs.Planned.{planned-yard, planned-file, planned-refused, planned-cleared, yard-given, yard-placement, yard-cleared, len-few}
 use borrow.Author.Needs.{needs}
 use Rattle.galzpuna.proofs.files.resolve_checked.Statement.{statement}
 use Rattle.galzpuna.proofs.files.resolve_checked.Tie as tie
@@ -35,7 +35,7 @@ returns-2 c =
 judge-on-requires : tie.Need-judge-on-requires
 judge-on-requires c κs =
     let w = held-as _ _ _ _ (c .before .before .before .before .before .before .before .check-file .ensures .1) (c .before .before .before .before .before .before .of-plan-file .ensures .1 (c .before .before .before .before .if2 .left)) in
-    ((w .most, len-few _ _ w), yard-placement _ _ _ _ _ (c .before .before .before .before .before .before .before .before .before .before .before .read-yard .ensures .read (c .before .before .before .before .before .before .before .before .if1 .left)))
+    (w .most, yard-placement _ _ _ _ _ (c .before .before .before .before .before .before .before .before .before .before .before .read-yard .ensures .read (c .before .before .before .before .before .before .before .before .if1 .left)))
 
 of-plan-requires : tie.Need-of-plan-requires
 of-plan-requires c κs = search needs
@@ -45,26 +45,27 @@ returns-3 c =
     let a = c .before .before .before .before .before .before .before .before .before .before .before .before .before .before .before .before .before .before .before .before .before .args in
     let d = c .before .before .before .before .before .before .before .before .before .before .before .before .before .before .before .read-yard .ensures .read (c .before .before .before .before .before .before .before .before .before .before .before .before .if1 .left) in
     let t = c .before .before .before .judge-on .ensures (d .it .graph) (d .it .placing) (yard-given _ _ _ _ _ d) (sym (d .held .count)) (d .placed) (sym (d .robots .starts)) (sym (d .robots .goals)) in
-    planned-refused (a .map .now) (a .placed .now) (a .plan .now) (a .out .now) _ _ _ d (λ i. omega (arith, c .before .before .before .before .before .before .before .before .before .before .before .before .before .before .before .before .before .before .shared-slice-known3 .given i)) _ (c .before .before .before .before .before .before .before .before .before .before .before .check-file .ensures .0 30) (c .before .before .before .before .before .before .before .before .before .before .of-plan-file .result .number) (c .before .before .before .before .before .before .before .before .before .before .of-plan-file .result .place) (c .before .before .before .before .before .before .before .before .before .before .of-plan-file .ensures .0 _) (c .before .before .before .before .before .before .before .before .if2 .left) _ t (c .before .before .of-plan .result .number) (c .before .before .of-plan .result .place) (c .before .before .of-plan .ensures .0) (c .before .before .of-plan .ensures .1) (c .if3 .taken)
+    planned-refused (a .map .now) (a .placed .now) (a .plan .now) (a .out .now) _ _ _ d (λ i. omega (arith, c .before .before .before .before .before .before .before .before .before .before .before .before .before .before .before .before .before .before .shared-slice-known3 .given i)) _ (c .before .before .before .before .before .before .before .before .before .before .before .check-file .ensures .0 30) (c .before .before .before .before .before .before .before .before .before .before .of-plan-file .result .number) (c .before .before .before .before .before .before .before .before .before .before .of-plan-file .result .place) (c .before .before .before .before .before .before .before .before .before .before .of-plan-file .ensures .0 _) (c .before .before .before .before .before .before .before .before .if2 .left) _ t (c .before .before .of-plan .result .number) (c .before .before .of-plan .result .place) (c .before .before .of-plan .ensures .0) (c .if3 .taken)
 
 resolve-on-requires : tie.Need-resolve-on-requires
 resolve-on-requires c κs =
-    let w = held-as _ _ _ _ (c .before .before .before .before .before .before .before .before .before .before .before .before .before .check-file .ensures .1) (c .before .before .before .before .before .before .before .before .before .before .before .before .of-plan-file .ensures .1 (c .before .before .before .before .before .before .before .before .before .before .if2 .left)) in
-    ((w .most, len-few _ _ w), yard-placement _ _ _ _ _ (c .before .before .before .before .before .before .before .before .before .before .before .before .before .before .before .before .before .read-yard .ensures .read (c .before .before .before .before .before .before .before .before .before .before .before .before .before .before .if1 .left)))
-
-of-plan-requires-2 : tie.Need-of-plan-requires-2
-of-plan-requires-2 c κs = search needs
+    let d = c .before .before .before .before .before .before .before .before .before .before .before .before .before .before .before .before .read-yard .ensures .read (c .before .before .before .before .before .before .before .before .before .before .before .before .before .if1 .left) in
+    let t = c .before .before .before .before .judge-on .ensures (d .it .graph) (d .it .placing) (yard-given _ _ _ _ _ d) (sym (d .held .count)) (d .placed) (sym (d .robots .starts)) (sym (d .robots .goals)) in
+    let w = held-as _ _ _ _ (c .before .before .before .before .before .before .before .before .before .before .before .before .check-file .ensures .1) (c .before .before .before .before .before .before .before .before .before .before .before .of-plan-file .ensures .1 (c .before .before .before .before .before .before .before .before .before .if2 .left)) in
+    yard-cleared _ _ _ _ _ d _ _ (w .most) (len-few _ _ w) _ t (c .before .before .before .of-plan .ensures .1 (c .before .if3 .left))
 
 same-length : tie.Need-same-length
 same-length c = search needs
 
 returns-4 : tie.Need-returns-4
+unfolding yard-placement yard-cleared
 returns-4 c =
-    let a = c .before .before .before .before .before .before .before .before .before .before .before .before .before .before .before .before .before .before .before .before .before .before .before .before .before .before .before .args in
-    let d = c .before .before .before .before .before .before .before .before .before .before .before .before .before .before .before .before .before .before .before .before .before .read-yard .ensures .read (c .before .before .before .before .before .before .before .before .before .before .before .before .before .before .before .before .before .before .if1 .left) in
-    let t = c .before .before .before .before .before .before .before .before .before .judge-on .ensures (d .it .graph) (d .it .placing) (yard-given _ _ _ _ _ d) (sym (d .held .count)) (d .placed) (sym (d .robots .starts)) (sym (d .robots .goals)) in
-    let u = c .before .before .before .resolve-on .ensures (d .it .graph) (d .it .placing) (yard-given _ _ _ _ _ d) (sym (d .held .count)) (d .placed) (sym (d .robots .starts)) (sym (d .robots .goals)) in
-    planned-cleared (a .map .now) (a .placed .now) (a .plan .now) (a .out .now) _ _ _ d (λ i. omega (arith, c .before .before .before .before .before .before .before .before .before .before .before .before .before .before .before .before .before .before .before .before .before .before .before .before .shared-slice-known3 .given i)) _ (c .before .before .before .before .before .before .before .before .before .before .before .before .before .before .before .before .before .check-file .ensures .0 30) (c .before .before .before .before .before .before .before .before .before .before .before .before .before .before .before .before .of-plan-file .result .number) (c .before .before .before .before .before .before .before .before .before .before .before .before .before .before .before .before .of-plan-file .result .place) (c .before .before .before .before .before .before .before .before .before .before .before .before .before .before .before .before .of-plan-file .ensures .0 _) (c .before .before .before .before .before .before .before .before .before .before .before .before .before .before .if2 .left) _ t (c .before .before .before .before .before .before .before .before .of-plan .result .number) (c .before .before .before .before .before .before .before .before .of-plan .result .place) (c .before .before .before .before .before .before .before .before .of-plan .ensures .0) (c .before .before .before .before .before .before .before .before .of-plan .ensures .1) (c .before .before .before .before .before .before .if3 .left) _ _ u (c .of-plan2 .result .number) (c .of-plan2 .result .place) (c .of-plan2 .ensures .0) (c .of-plan2 .ensures .1)
+    let a = c .before .before .before .before .before .before .before .before .before .before .before .before .before .before .before .before .before .before .before .before .before .before .before .before .before .args in
+    let d = c .before .before .before .before .before .before .before .before .before .before .before .before .before .before .before .before .before .before .before .read-yard .ensures .read (c .before .before .before .before .before .before .before .before .before .before .before .before .before .before .before .before .if1 .left) in
+    let t = c .before .before .before .before .before .before .before .judge-on .ensures (d .it .graph) (d .it .placing) (yard-given _ _ _ _ _ d) (sym (d .held .count)) (d .placed) (sym (d .robots .starts)) (sym (d .robots .goals)) in
+    let w = held-as _ _ _ _ (c .before .before .before .before .before .before .before .before .before .before .before .before .before .before .before .check-file .ensures .1) (c .before .before .before .before .before .before .before .before .before .before .before .before .before .before .of-plan-file .ensures .1 (c .before .before .before .before .before .before .before .before .before .before .before .before .if2 .left)) in
+    planned-cleared (a .map .now) (a .placed .now) (a .plan .now) (a .out .now) _ _ _ d (λ i. omega (arith, c .before .before .before .before .before .before .before .before .before .before .before .before .before .before .before .before .before .before .before .before .before .before .shared-slice-known3 .given i)) _ (c .before .before .before .before .before .before .before .before .before .before .before .before .before .before .before .check-file .ensures .0 30) (c .before .before .before .before .before .before .before .before .before .before .before .before .before .before .of-plan-file .result .number) (c .before .before .before .before .before .before .before .before .before .before .before .before .before .before .of-plan-file .result .place) (c .before .before .before .before .before .before .before .before .before .before .before .before .before .before .of-plan-file .ensures .0 _) (c .before .before .before .before .before .before .before .before .before .before .before .before .if2 .left) _ t (c .before .before .before .before .before .before .of-plan .result .number) (c .before .before .before .before .before .before .of-plan .result .place) (c .before .before .before .before .before .before .of-plan .ensures .0) (c .before .before .before .before .if3 .left) _ _
+    (c .before .before .resolve-on .ensures (yard-cleared _ _ _ _ _ d _ _ (w .most) (len-few _ _ w) _ t (c .before .before .before .before .before .before .of-plan .ensures .1 (c .before .before .before .before .if3 .left))))
 
 pub resolve-checked-spec : {M : Type 1} → statement M
 resolve-checked-spec =
@@ -79,6 +80,5 @@ resolve-checked-spec =
     of-plan-requires
     returns-3
     resolve-on-requires
-    of-plan-requires-2
     same-length
     returns-4)

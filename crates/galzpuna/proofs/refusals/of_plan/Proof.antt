@@ -1,6 +1,6 @@
 use mathlib.Core.Path.{sym, ap}
 use native.Mathlib.Omega.{arith}
-use Rattle.resolve.specs.Fault.{faultOf}
+use Rattle.judge.specs.Fault.{faultOf}
 use borrow.Author.Needs.{needs}
 use Rattle.galzpuna.proofs.refusals.of_plan.Statement.{statement}
 use Rattle.galzpuna.proofs.refusals.of_plan.Tie as tie

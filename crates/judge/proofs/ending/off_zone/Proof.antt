@@ -13,7 +13,7 @@ use Rattle.spec.specs.Terms.{zoneCount}
 use Rattle.theory.specs.Maps.Consistent.{Consistent}
 use Rattle.motion.specs.States.{stateOf}
 use Rattle.resolve.specs.Given.{Given}
-use Rattle.resolve.specs.Endings.{offZone, goals-next, goals-off, goals-all}
+use Rattle.judge.specs.Endings.{offZone, goals-next, goals-off, goals-all}
 use Rattle.judge.specs.Held.{Held}
 use Rattle.judge.specs.Judging.{ends-by}
 use Rattle.judge.proofs.ending.off_zone.Statement.{statement}

@@ -2,11 +2,12 @@ use borrow.Author.Needs.{needs}
 use mir.Syntax.{w8}
 use borrow.Kind.Array.{eInt, good-length}
 use denote.Enum.Declared.{tagOf}
-use Rattle.resolve.proofs.PlanFault.{the-type}
-use Rattle.resolve.specs.declared.PlanFault.the-variants as plan
-use Rattle.resolve.specs.Whole.{start-consistent, other-fault}
+use Rattle.judge.proofs.PlanFault.{the-type}
+use Rattle.judge.specs.declared.PlanFault.the-variants as plan
+use Rattle.resolve.specs.Whole.{start-consistent}
+use Rattle.judge.specs.Fault.{other-fault}
 use Rattle.resolve.specs.Given.{has-zone}
-use Rattle.resolve.specs.Endings.{off-some, off-none}
+use Rattle.judge.specs.Endings.{off-some, off-none}
 use Rattle.wire.specs.Payload.{payload}
 use Rattle.spec.specs.State as meaning
 use Rattle.motion.specs.States.{stateOf}
@@ -50,7 +51,7 @@ walk-requires c κs =
     let l : a .k ≤ length (a .starts) = omega (arith, b .given .few) in
     let s = stateOf (c .before .before .before .before .before .before .before .before .standing .result) in
     let hc = start-consistent (b .map) (b .given .accepted) (b .placing) (b .placed) (a .k) (a .starts) s l (b .on-starts) (c .before .before .before .before .before .before .before .before .standing .ensures) in
-    ((c .before .before .before .before .before .before .before .before .before .before .before .before .before .pre .0 .0, c .before .before .before .before .before .before .before .before .before .before .before .before .before .pre .0 .2, c .before .before .before .before .before .before .before .before .before .payload-word .ensures .1), record { map = b .map; given = b .given; state = s; consistent = hc; held = c .before .before .before .before .fill-lists .ensures .2 (b .map) (a .n) (a .k) (a .kind .now) (a .zone .now) (a .place .now) (a .rows .now) (b .given) (b .count) hc; room = c .before .before .before .before .fill-lists .ensures .0; many = c .before .before .before .before .fill-lists .ensures .1 })
+    ((c .before .before .before .before .before .before .before .before .before .before .before .before .before .pre .0 .0, c .before .before .before .before .before .before .before .before .before .before .before .before .before .pre .0 .1, c .before .before .before .before .before .before .before .before .before .payload-word .ensures .1), record { map = b .map; given = b .given; state = s; consistent = hc; held = c .before .before .before .before .fill-lists .ensures .2 (b .map) (a .n) (a .k) (a .kind .now) (a .zone .now) (a .place .now) (a .rows .now) (b .given) (b .count) hc; room = c .before .before .before .before .fill-lists .ensures .0; many = c .before .before .before .before .fill-lists .ensures .1 })
 
 enum-told : tie.Need-enum-told
 enum-told c =
@@ -69,7 +70,7 @@ returns c =
     let s = stateOf (c .before .before .before .before .before .before .before .before .before .before .before .before .standing .result) in
     let hc = start-consistent m (d .accepted) pl pd (a .k) (a .starts) s l es (c .before .before .before .before .before .before .before .before .before .before .before .before .standing .ensures) in
     let held = c .before .before .before .before .before .before .before .before .fill-lists .ensures .2 m (a .n) (a .k) (a .kind .now) (a .zone .now) (a .place .now) (a .rows .now) d e hc in
-    judged-refused m pl (a .file .now) (a .len) (c .before .before .before .before .before .before .before .before .before .before .before .before .before .before .before .before .before .pre .0 .0) (a .k) (c .before .before .before .before .before .before .before .before .before .before .before .before .before .payload-word .result) (a .starts) s (c .before .before .before .before .before .before .before .before .before .before .before .before .before .before .before .before .before .pre .0 .2) (c .before .before .before .before .before .before .before .before .before .before .before .before .before .payload-word .ensures .0) l es (c .before .before .before .before .before .before .before .before .before .before .before .before .standing .ensures) (a .first .now) _ _ (c .before .before .before .walk .result .fault) (c .before .before .before .walk .result .next) (λ z. other-fault _ (c .match .keys2) (ap (tagOf the-type) z)) (c .before .before .before .walk .ensures .2 m d s hc held)
+    judged-refused m pl (a .file .now) (a .len) (c .before .before .before .before .before .before .before .before .before .before .before .before .before .before .before .before .before .pre .0 .0) (a .k) (c .before .before .before .before .before .before .before .before .before .before .before .before .before .payload-word .result) (a .starts) s (c .before .before .before .before .before .before .before .before .before .before .before .before .before .before .before .before .before .pre .0 .1) (c .before .before .before .before .before .before .before .before .before .before .before .before .before .payload-word .ensures .0) l es (c .before .before .before .before .before .before .before .before .before .before .before .before .standing .ensures) (a .first .now) _ _ (c .before .before .before .walk .result .fault) (c .before .before .before .walk .result .next) (λ z. other-fault _ (c .match .keys2) (ap (tagOf the-type) z)) (c .before .before .before .walk .ensures .2 m d s hc held)
 
 same-length-2 : tie.Need-same-length-2
 same-length-2 c =
@@ -85,7 +86,7 @@ returns-2 c =
     let hc = start-consistent m (d .accepted) pl pd (a .k) (a .starts) s l es (c .before .before .before .before .before .before .before .before .before .before .before .before .before .before .standing .ensures) in
     let held = c .before .before .before .before .before .before .before .before .before .before .fill-lists .ensures .2 m (a .n) (a .k) (a .kind .now) (a .zone .now) (a .place .now) (a .rows .now) d e hc in
     let x : JudgedWalk m (a .k) (take (a .len) (payload (a .file .now))) (c .before .before .before .before .before .before .before .before .before .before .before .before .before .before .before .payload-word .result) s plan.None (c .before .before .before .before .before .walk .result .next) (a .first .now) _ _ = rw (c .before .enum-told .given .1) at (c .before .before .before .before .before .walk .ensures .2 m d s hc held) in
-    judged-surplus m pl (a .file .now) (a .len) (c .before .before .before .before .before .before .before .before .before .before .before .before .before .before .before .before .before .before .before .pre .0 .0) (a .k) (c .before .before .before .before .before .before .before .before .before .before .before .before .before .before .before .payload-word .result) (a .starts) s (c .before .before .before .before .before .before .before .before .before .before .before .before .before .before .before .before .before .before .before .pre .0 .2) (c .before .before .before .before .before .before .before .before .before .before .before .before .before .before .before .payload-word .ensures .0) l es (c .before .before .before .before .before .before .before .before .before .before .before .before .before .before .standing .ensures) (a .first .now) _ _ (c .before .before .before .before .before .walk .result .next) x (c .if1 .taken)
+    judged-surplus m pl (a .file .now) (a .len) (c .before .before .before .before .before .before .before .before .before .before .before .before .before .before .before .before .before .before .before .pre .0 .0) (a .k) (c .before .before .before .before .before .before .before .before .before .before .before .before .before .before .before .payload-word .result) (a .starts) s (c .before .before .before .before .before .before .before .before .before .before .before .before .before .before .before .before .before .before .before .pre .0 .1) (c .before .before .before .before .before .before .before .before .before .before .before .before .before .before .before .payload-word .ensures .0) l es (c .before .before .before .before .before .before .before .before .before .before .before .before .before .before .standing .ensures) (a .first .now) _ _ (c .before .before .before .before .before .walk .result .next) x (c .if1 .taken)
 
 off-zone-requires : tie.Need-off-zone-requires
 off-zone-requires c κs =
@@ -98,7 +99,7 @@ off-zone-requires c κs =
     let held = c .before .before .before .before .before .before .before .before .before .before .before .before .fill-lists .ensures .2 (b .map) (a .n) (a .k) (a .kind .now) (a .zone .now) (a .place .now) (a .rows .now) (b .given) (b .count) hc in
     let x = c .before .before .before .before .before .before .before .walk .ensures .2 (b .map) (b .given) s hc held in (
       λ z h. has-zone (b .map) (a .n) (a .k) (a .kind .now) (a .first .now) (a .size .now) (a .listed .now) (a .zone .now) (a .place .now) (a .rows .now) (b .given) z (rw (b .count) h),
-      λ z h. has-list (b .map) (a .n) (a .k) (a .kind .now) (a .first .now) (a .size .now) (a .listed .now) (a .zone .now) (a .place .now) (a .rows .now) (b .given) (x .world .state) (x .walked .consistent) _ _ (x .held) (c .before .before .before .before .before .before .before .walk .ensures .0) (c .before .before .before .before .before .before .before .walk .ensures .1) z (rw (b .count) h),
+      λ z h. has-list (b .map) (a .n) (a .k) (a .kind .now) (a .first .now) (a .size .now) (a .listed .now) (a .zone .now) (a .place .now) (a .rows .now) (b .given) (x .state) (x .consistent) _ _ (x .held) (c .before .before .before .before .before .before .before .walk .ensures .0) (c .before .before .before .before .before .before .before .walk .ensures .1) z (rw (b .count) h),
     )
 
 same-length-3 : tie.Need-same-length-3
@@ -115,8 +116,8 @@ returns-3 c =
     let hc = start-consistent m (d .accepted) pl pd (a .k) (a .starts) s l es (c .before .before .before .before .before .before .before .before .before .before .before .before .before .before .before .before .before .before .standing .ensures) in
     let held = c .before .before .before .before .before .before .before .before .before .before .before .before .before .before .fill-lists .ensures .2 m (a .n) (a .k) (a .kind .now) (a .zone .now) (a .place .now) (a .rows .now) d e hc in
     let x : JudgedWalk m (a .k) (take (a .len) (payload (a .file .now))) (c .before .before .before .before .before .before .before .before .before .before .before .before .before .before .before .before .before .before .before .payload-word .result) s plan.None (c .before .before .before .before .before .before .before .before .before .walk .result .next) (a .first .now) _ _ = rw (c .before .before .before .before .before .enum-told .given .1) at (c .before .before .before .before .before .before .before .before .before .walk .ensures .2 m d s hc held) in
-    judged-goals m pl (a .file .now) (a .len) (c .before .before .before .before .before .before .before .before .before .before .before .before .before .before .before .before .before .before .before .before .before .before .before .pre .0 .0) (a .k) (c .before .before .before .before .before .before .before .before .before .before .before .before .before .before .before .before .before .before .before .payload-word .result) (a .starts) s (c .before .before .before .before .before .before .before .before .before .before .before .before .before .before .before .before .before .before .before .before .before .before .before .pre .0 .2) (c .before .before .before .before .before .before .before .before .before .before .before .before .before .before .before .before .before .before .before .payload-word .ensures .0) l es (c .before .before .before .before .before .before .before .before .before .before .before .before .before .before .before .before .before .before .standing .ensures) (a .first .now) _ _ (c .before .before .before .before .before .before .before .before .before .walk .result .next) x (d .accepted) (d .tables .few) (c .before .before .before .before .before .before .before .before .before .before .before .before .before .before .before .before .before .before .before .before .before .before .before .pre .0 .1) (stateOf (c .before .before .before .before .before .before .before .before .before .before .before .before .before .before .before .before .before .standing2 .result)) (c .before .before .before .before .before .before .before .before .before .before .before .before .before .before .before .before .before .standing2 .ensures ∙ ap meaning.standing (sym eg)) (c .before .before .before .before .if1 .left) (plan.Goal (c .before .off-zone .result))
-    (sym (off-some (c .before .off-zone .result) (a .zones) (c .if2 .taken)) ∙ c .before .off-zone .ensures m (a .n) (a .k) (a .zone .now) (a .place .now) (a .rows .now) d e (x .world .state) (x .walked .consistent) (x .held))
+    judged-goals m pl (a .file .now) (a .len) (c .before .before .before .before .before .before .before .before .before .before .before .before .before .before .before .before .before .before .before .before .before .before .before .pre .0 .0) (a .k) (c .before .before .before .before .before .before .before .before .before .before .before .before .before .before .before .before .before .before .before .payload-word .result) (a .starts) s (c .before .before .before .before .before .before .before .before .before .before .before .before .before .before .before .before .before .before .before .before .before .before .before .pre .0 .1) (c .before .before .before .before .before .before .before .before .before .before .before .before .before .before .before .before .before .before .before .payload-word .ensures .0) l es (c .before .before .before .before .before .before .before .before .before .before .before .before .before .before .before .before .before .before .standing .ensures) (a .first .now) _ _ (c .before .before .before .before .before .before .before .before .before .walk .result .next) x (stateOf (c .before .before .before .before .before .before .before .before .before .before .before .before .before .before .before .before .before .standing2 .result)) (c .before .before .before .before .before .before .before .before .before .before .before .before .before .before .before .before .before .standing2 .ensures ∙ ap meaning.standing (sym eg)) (c .before .before .before .before .if1 .left) (plan.Goal (c .before .off-zone .result))
+    (sym (off-some (c .before .off-zone .result) (a .zones) (c .if2 .taken)) ∙ c .before .off-zone .ensures m (a .n) (a .k) (a .zone .now) (a .place .now) (a .rows .now) d e (x .state) (x .consistent) (x .held))
 
 same-length-4 : tie.Need-same-length-4
 same-length-4 c =
@@ -132,8 +133,8 @@ returns-4 c =
     let hc = start-consistent m (d .accepted) pl pd (a .k) (a .starts) s l es (c .before .before .before .before .before .before .before .before .before .before .before .before .before .before .before .before .before .before .standing .ensures) in
     let held = c .before .before .before .before .before .before .before .before .before .before .before .before .before .before .fill-lists .ensures .2 m (a .n) (a .k) (a .kind .now) (a .zone .now) (a .place .now) (a .rows .now) d e hc in
     let x : JudgedWalk m (a .k) (take (a .len) (payload (a .file .now))) (c .before .before .before .before .before .before .before .before .before .before .before .before .before .before .before .before .before .before .before .payload-word .result) s plan.None (c .before .before .before .before .before .before .before .before .before .walk .result .next) (a .first .now) _ _ = rw (c .before .before .before .before .before .enum-told .given .1) at (c .before .before .before .before .before .before .before .before .before .walk .ensures .2 m d s hc held) in
-    judged-goals m pl (a .file .now) (a .len) (c .before .before .before .before .before .before .before .before .before .before .before .before .before .before .before .before .before .before .before .before .before .before .before .pre .0 .0) (a .k) (c .before .before .before .before .before .before .before .before .before .before .before .before .before .before .before .before .before .before .before .payload-word .result) (a .starts) s (c .before .before .before .before .before .before .before .before .before .before .before .before .before .before .before .before .before .before .before .before .before .before .before .pre .0 .2) (c .before .before .before .before .before .before .before .before .before .before .before .before .before .before .before .before .before .before .before .payload-word .ensures .0) l es (c .before .before .before .before .before .before .before .before .before .before .before .before .before .before .before .before .before .before .standing .ensures) (a .first .now) _ _ (c .before .before .before .before .before .before .before .before .before .walk .result .next) x (d .accepted) (d .tables .few) (c .before .before .before .before .before .before .before .before .before .before .before .before .before .before .before .before .before .before .before .before .before .before .before .pre .0 .1) (stateOf (c .before .before .before .before .before .before .before .before .before .before .before .before .before .before .before .before .before .standing2 .result)) (c .before .before .before .before .before .before .before .before .before .before .before .before .before .before .before .before .before .standing2 .ensures ∙ ap meaning.standing (sym eg)) (c .before .before .before .before .if1 .left) plan.None
-    (sym (off-none (c .before .off-zone .result) (a .zones) (c .if2 .left)) ∙ c .before .off-zone .ensures m (a .n) (a .k) (a .zone .now) (a .place .now) (a .rows .now) d e (x .world .state) (x .walked .consistent) (x .held))
+    judged-goals m pl (a .file .now) (a .len) (c .before .before .before .before .before .before .before .before .before .before .before .before .before .before .before .before .before .before .before .before .before .before .before .pre .0 .0) (a .k) (c .before .before .before .before .before .before .before .before .before .before .before .before .before .before .before .before .before .before .before .payload-word .result) (a .starts) s (c .before .before .before .before .before .before .before .before .before .before .before .before .before .before .before .before .before .before .before .before .before .before .before .pre .0 .1) (c .before .before .before .before .before .before .before .before .before .before .before .before .before .before .before .before .before .before .before .payload-word .ensures .0) l es (c .before .before .before .before .before .before .before .before .before .before .before .before .before .before .before .before .before .before .standing .ensures) (a .first .now) _ _ (c .before .before .before .before .before .before .before .before .before .walk .result .next) x (stateOf (c .before .before .before .before .before .before .before .before .before .before .before .before .before .before .before .before .before .standing2 .result)) (c .before .before .before .before .before .before .before .before .before .before .before .before .before .before .before .before .before .standing2 .ensures ∙ ap meaning.standing (sym eg)) (c .before .before .before .before .if1 .left) plan.None
+    (sym (off-none (c .before .off-zone .result) (a .zones) (c .if2 .left)) ∙ c .before .off-zone .ensures m (a .n) (a .k) (a .zone .now) (a .place .now) (a .rows .now) d e (x .state) (x .consistent) (x .held))
 
 pub judge-in-spec : {M : Type 1} → statement M
 judge-in-spec =

@@ -18,7 +18,7 @@ slice-aggregate-judge-in c =
 
 judge-in-requires : tie.Need-judge-in-requires
 judge-in-requires c κs =
-    ((c .before .before .before .before .before .pre .0 .0, c .before .before .before .before .before .pre .0 .1, c .before .before .if1 .left), ((sym (c .before .before .before .before .before .pre .0 .2), refl, λ z. getD-uniform 64 z 0), c .before .before .before .before .before .pre .1))
+    ((c .before .before .before .before .before .pre .0 .0, c .before .before .if1 .left), ((sym (c .before .before .before .before .before .pre .0 .1), refl, λ z. getD-uniform 64 z 0), c .before .before .before .before .before .pre .1))
 
 returns-2 : tie.Need-returns-2
 returns-2 c =

@@ -8,7 +8,7 @@ use Rattle.spec.specs.Outcome.{ok}
 use Rattle.wire.specs.Payload.{payload, held-length}
 use Rattle.orders.specs.Orders.{cliqueEnters}
 use Rattle.resolve.specs.Held.{heldPart}
-use Rattle.resolve.specs.Tests.{entry-full, entry-short, entry-unmet, entry-met}
+use Rattle.judge.specs.Testing.{entry-full, entry-short, entry-unmet, entry-met}
 use Rattle.judge.specs.Entering.{clique-enters}
 use Rattle.judge.specs.Steps.{is-full, not-full, extra-is, enters-by, extra-zero, extra-some, entry-refused, entry-filled}
 use Rattle.judge.proofs.walk.test_entry.Statement.{statement}

@@ -5,17 +5,17 @@ use mathlib.Core.Path.{refl, sym, _∙_}
 use lib.ListN.{take}
 use borrow.Author.Tests.{not-true, not-false}
 use Rattle.wire.specs.Payload.{payload, held-length}
-use Rattle.resolve.specs.Steps.{step-number, step-edge, step-leave, step-enter}
-use Rattle.resolve.specs.Given.{numbers-below}
-use Rattle.resolve.specs.Tests.{tests-short}
+use Rattle.judge.specs.Testing.{step-number, step-edge, step-leave, step-enter}
+use Rattle.judge.specs.Testing.{numbers-below}
+use Rattle.judge.specs.Testing.{tests-short}
 use Rattle.judge.specs.Steps.{fits, leaves-by, zone-proper, zone-holds, zone-long, step-refused}
 use Rattle.judge.proofs.walk.test_step.Statement.{statement}
 use Rattle.judge.proofs.walk.test_step.Tie as tie
 use Rattle.judge.proofs.walk.leave_at.Reads as leave-at-reads
 use Rattle.judge.proofs.walk.refused.Reads as refused-reads
 use Rattle.judge.proofs.walk.test_entry_at.Reads as test-entry-at-reads
-use Rattle.resolve.proofs.tests.are_numbered.Reads as are-numbered-reads
-use Rattle.resolve.proofs.tests.is_crossing.Reads as is-crossing-reads
+use Rattle.judge.proofs.tests.are_numbered.Reads as are-numbered-reads
+use Rattle.judge.proofs.tests.is_crossing.Reads as is-crossing-reads
 use Rattle.wire.proofs.payload_four.Reads as payload-four-reads
 
 sub-if1 : tie.Need-sub-if1

@@ -1,7 +1,7 @@
 use borrow.Author.Needs.{needs}
-use Rattle.resolve.specs.Steps.{refusalOf, other-tag}
+use Rattle.judge.specs.Fault.{refusalOf, other-tag}
 use denote.Enum.Declared.{tagOf}
-use Rattle.resolve.proofs.StepTest.{the-type}
+use Rattle.judge.proofs.StepTest.{the-type}
 use Rattle.resolve.specs.Given.{Given}
 use Rattle.theory.specs.Maps.Consistent.{Consistent}
 use Rattle.spec.specs.Layout.{Map}
@@ -18,7 +18,7 @@ use Rattle.judge.proofs.walk.walk.Statement.{statement}
 use Rattle.judge.proofs.walk.walk.Tie as tie
 use Rattle.judge.proofs.walk.make_step.Reads as make-step-reads
 use Rattle.judge.proofs.walk.test_step.Reads as test-step-reads
-use Rattle.resolve.proofs.walk.refusal_of.Reads as refusal-of-reads
+use Rattle.judge.proofs.tests.refusal_of.Reads as refusal-of-reads
 
 abbrev Inv-loop : tie.InvT-loop
 Inv-loop file len count kind first size listed zone place rows n k cells₀ counts₀ o₀ i₀ cells counts o i = (i ≤ count) × (length cells ≡ length listed) × (length counts ≡ 64) × ((m : Map) → Given m n k kind first size listed zone place rows → (s : State) → Consistent m k s → Held m first counts₀ cells₀ s → Judging m k (take len (payload file)) count s i o first counts cells)

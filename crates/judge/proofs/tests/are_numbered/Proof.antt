@@ -1,6 +1,6 @@
-use Rattle.resolve.specs.Given.{numbered-robot, numbered-from, numbered-to, numbered-all}
-use Rattle.resolve.proofs.tests.are_numbered.Statement.{statement}
-use Rattle.resolve.proofs.tests.are_numbered.Tie as tie
+use Rattle.judge.specs.Testing.{numbered-robot, numbered-from, numbered-to, numbered-all}
+use Rattle.judge.proofs.tests.are_numbered.Statement.{statement}
+use Rattle.judge.proofs.tests.are_numbered.Tie as tie
 
 returns : tie.Need-returns
 returns c = numbered-robot _ _ _ _ _ (c .if1 .taken)

@@ -1,8 +1,8 @@
-use Rattle.resolve.specs.Steps.{refusalOf}
+use Rattle.judge.specs.Fault.{refusalOf}
 use mathlib.Core.Path.{sym, ap}
 use borrow.Author.Needs.{needs}
-use Rattle.resolve.proofs.walk.refusal_of.Statement.{statement}
-use Rattle.resolve.proofs.walk.refusal_of.Tie as tie
+use Rattle.judge.proofs.tests.refusal_of.Statement.{statement}
+use Rattle.judge.proofs.tests.refusal_of.Tie as tie
 
 enum-told : tie.Need-enum-told
 enum-told c = search needs

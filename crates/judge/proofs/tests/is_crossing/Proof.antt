@@ -1,9 +1,9 @@
 use mathlib.Core.Path.{sym, _∙_}
 use borrow.Author.Tests.{not-true, not-false}
-use Rattle.resolve.specs.Given.{crosses-none, crosses-inside, crosses-over}
+use Rattle.judge.specs.Testing.{crosses-none, crosses-inside, crosses-over}
 use borrow.Author.Needs.{needs}
-use Rattle.resolve.proofs.tests.is_crossing.Statement.{statement}
-use Rattle.resolve.proofs.tests.is_crossing.Tie as tie
+use Rattle.judge.proofs.tests.is_crossing.Statement.{statement}
+use Rattle.judge.proofs.tests.is_crossing.Tie as tie
 
 joined-requires : tie.Need-joined-requires
 joined-requires c κs = search needs
