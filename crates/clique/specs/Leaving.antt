@@ -15,11 +15,7 @@ use Rattle.theory.specs.Maps.Cells.{cell-of, cell-none}
 use Rattle.motion.specs.World.{World, made, madeAll}
 use Rattle.motion.specs.Reading.{member-seek}
 
--- no move, and one move
-pub made-nothing : (w : World) (vs : List ℕ) (ms : List Move) → ms ≡ [] → w ≡ madeAll w (across vs ms)
-unfolding madeAll across
-made-nothing w vs ms e = rw e
-
+-- one move
 pub made-single : (w u : World) (vs : List ℕ) (m : Move) (ms : List Move) → u ≡ made w (acrossMove vs m) → ms ≡ m ∷ [] → u ≡ madeAll w (across vs ms)
 unfolding madeAll across
 made-single w u vs m ms e d = rw (d, e)

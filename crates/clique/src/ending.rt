@@ -7,9 +7,9 @@ ghost use Rattle.spec.specs.State.{arrangementOf, across};
 ghost use Rattle.spec.specs.Terms.{Distinct};
 ghost use Rattle.motion.specs.Tables.{onVertices};
 ghost use Rattle.motion.specs.World.{worldIn, madeAll};
-use crate::comparing::same_cells;
-use crate::comparing::same_robots;
-use crate::toward::go_toward;
+use arranging::toward::go_toward;
+use comparing::same_cells;
+use comparing::same_robots;
 use motion::cells_of;
 use motion::is_full;
 

@@ -5,7 +5,7 @@ ghost use Rattle.spec.specs.Clique.{cliqueCanLeave, cliqueLeave, makeRoom};
 ghost use Rattle.spec.specs.State.{arrangementOf, across, acrossMove};
 ghost use Rattle.motion.specs.Tables.{onVertices};
 ghost use Rattle.motion.specs.World.{worldIn, made, madeAll};
-use crate::placing::first_free;
+use arranging::placing::first_free;
 use motion::is_full;
 use motion::make;
 use motion::place_of;

@@ -1,23 +1,13 @@
 // Cliques in motion (document 01, "Which moves are written"): which robots a zone holds, what a clique can do, and its moves.
 //
 //     counting   how many robots stand in a zone, of any kind
-//     placing    the earliest empty place
 //     leaving    leaving a clique, and making room in it
-//     opening    a place that is empty and some robot's target
-//     table      the places of the robots in a table
-//     toward     the moves towards a given arrangement
-//     comparing  two arrangements compared
 //     ending     bringing a clique to the goals
 //     entering   entering a clique, with a follow list where it is filled
-pub mod comparing;
 pub mod counting;
 pub mod ending;
 pub mod entering;
 pub mod leaving;
-pub mod opening;
-pub mod placing;
-pub mod table;
-pub mod toward;
 
 pub use counting::last_free;
 pub use ending::bring_to_goals;

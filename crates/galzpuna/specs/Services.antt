@@ -16,8 +16,8 @@ use Rattle.drawing.specs.Drawn.{AllDrawn}
 use Rattle.placing.specs.declared.PlacingRead.{PlacingRead}
 use Rattle.layout.specs.declared.MapRead.{MapRead}
 use Rattle.galzpuna.specs.declared.Answer.{Answer}
-use Rattle.galzpuna.specs.declared.Opened.{Opened}
-use Rattle.galzpuna.specs.Opened.{chain, chain-all, ListRead, OpenedIs}
+use Rattle.opening.specs.declared.Opened.{Opened}
+use Rattle.opening.specs.Opened.{chain, chain-all, ListRead, OpenedIs}
 
 -- the number and place returned, and the buffer as it is left
 abbrev pub answered : Answer → List ℕ → meaning.Answer

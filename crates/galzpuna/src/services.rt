@@ -4,13 +4,13 @@ ghost use Prim.Native.Nat.{_<_};
 ghost use lib.ListN.{length};
 ghost use mathlib.Core.List.{[]};
 ghost use Rattle.spec.specs.Services.{judging, resolving, drawing, rounds};
-ghost use Rattle.galzpuna.specs.Opened.{MapFiled};
+ghost use Rattle.opening.specs.Opened.{MapFiled};
 ghost use Rattle.galzpuna.specs.Services.{answered, refusal};
 use crate::Answer;
-use crate::files::judge_files;
-use crate::files::open_list;
-use crate::files::resolve_files;
-use crate::refusals::of_map_file;
+use opening::files::judge_files;
+use opening::files::open_list;
+use opening::files::resolve_files;
+use opening::refusals::of_map_file;
 
 // Gives a refusal, and leaves the whole buffer zero.
 fn refuse(out: &mut [u8], number: u32, place: usize) -> Answer

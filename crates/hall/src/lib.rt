@@ -1,9 +1,6 @@
-// Halls and stacks in motion (document 01, "Which moves are written"): what a hall can reach, and the moves that are written.
+// Halls and stacks in motion (document 01, "Which moves are written"): leaving, entering and ending.
 //
 //     trips   robots sent from place to place
-//     line    the robots of a hall with their places
-//     goals   where they go so that one can leave or enter
-//     reach   what a hall can reach
 ghost use mathlib.Core.Path.{_≡_};
 ghost use Prim.Native.Nat.{_≤_, _<_, min};
 ghost use lib.ListN.{length};
@@ -12,30 +9,15 @@ ghost use Rattle.spec.specs.State.{across, arrangementOf};
 ghost use Rattle.motion.specs.Tables.{onVertices};
 ghost use Rattle.motion.specs.World.{worldIn, madeAll};
 
-pub mod goals;
-pub mod line;
-pub mod reach;
 mod trips;
 
-use goals::index_of;
-use goals::lower_than;
-use goals::spread;
-use line::line_up;
+use lineup::goals::index_of;
+use lineup::goals::lower_than;
+use lineup::goals::spread;
+use lineup::line::line_up;
+use motion::least;
 use numbering::Robot;
-pub use reach::behind;
-pub use reach::can_end;
-pub use reach::can_enter;
-pub use reach::can_leave;
 use trips::settle;
-
-fn least(a: usize, b: usize) -> usize
-    ensures { λ r. ⌜ r ≡ min a b ⌝ }
-{
-    if a < b {
-        return a;
-    }
-    b
-}
 
 // "Hall or stack, leaving at j": robot r goes to place j, those below and above it out of its way.
 pub fn leave(

@@ -22,13 +22,13 @@ use Rattle.spec.specs.Run.{goalsFrom}
 use Rattle.resolve.specs.Alone.{goals-alone}
 use Rattle.motion.specs.Across.{arrangement-length}
 use Rattle.zones.specs.Tables.{verticesIn}
-use Rattle.hall.specs.Line.{Lined}
+use Rattle.lineup.specs.Line.{Lined}
 use Rattle.orders.specs.Orders.{endTest}
 use Rattle.orders.specs.Packed.{holds-order}
 use Rattle.resolve.specs.Given.{Given, HasZone, part}
-use Rattle.judge.specs.Lists.{Rewritten}
+use Rattle.rosters.specs.Lists.{Rewritten}
 use Rattle.judge.specs.Held.{listIn, Held, Changed, changed-part, size-is, list-here, list-away, still-few}
-use Rattle.judge.specs.Held.{rest-is}
+use Rattle.rosters.specs.Lists.{rest-is}
 use Rattle.judge.specs.Making.{Listed}
 
 -- ---- one zone's list

@@ -22,7 +22,7 @@ use Rattle.orders.specs.Orders.{Holds, without, entered}
 use Rattle.orders.specs.Leaving.{left}
 use Rattle.orders.specs.Entering.{entered-holds}
 use Rattle.resolve.specs.Given.{Given}
-use Rattle.judge.specs.Lists.{Rewritten, append-left, append-right}
+use Rattle.rosters.specs.Lists.{Rewritten, append-left, append-right, rest-is}
 
 -- the list of zone z
 abbrev pub listIn : List ℕ → List ℕ → List ℕ → ℕ → List ℕ
@@ -57,14 +57,6 @@ changed-part cells a n l part new h e w =
   where
     rest : length (take a cells) ≡ a → drop a (take a cells ++ part) ≡ part
     rest q = lib.Seq.drop-at (take a cells) part a q
-
--- the rest of a row from element a on, as the code takes it
-pub rest-is : (a : ℕ) (cells : List ℕ) → take (length cells - a) (drop a cells) ≡ drop a cells
-rest-is a cells = take-all (length cells - a) (drop a cells) (omega (arith, length-drop a cells))
-
--- its length
-pub rest-length : (a : ℕ) (cells : List ℕ) → length (take (length cells - a) (drop a cells)) ≡ length cells - a
-rest-length a cells = ap length (rest-is a cells) ∙ length-drop a cells
 
 -- by the rest of the row that was lent; f is what becomes of it
 pub changed-rest : (cells : List ℕ) (a n : ℕ) (f : List ℕ → List ℕ) (part : List ℕ) → a ≤ length cells → Rewritten (take (length cells - a) (drop a cells)) n (f (take (length cells - a) (drop a cells))) part

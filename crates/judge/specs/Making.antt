@@ -22,7 +22,7 @@ use Rattle.theory.specs.Plans.Taken.{Taken, movesOf}
 use Rattle.theory.specs.Plans.Step.{proper}
 use Rattle.wire.specs.Payload.{payload, held-length}
 use Rattle.wire.specs.Payload as wire
-use Rattle.hall.specs.Reach.{member-index}
+use Rattle.lineup.specs.Reach.{member-index}
 use Rattle.orders.specs.Orders.{Holds, packed, without, entered}
 use Rattle.orders.specs.Packed.{packed-order}
 use Rattle.resolve.specs.Tests.{Passes, stepMoves}

@@ -30,7 +30,7 @@ use Rattle.judge.specs.declared.StepTest.the-variants as step
 use Rattle.judge.specs.Fault.{testOf}
 use Rattle.judge.specs.declared.Entry.{Entry}
 use Rattle.judge.specs.declared.Tested.{Tested}
-use Rattle.judge.specs.Entering.{entryOn}
+use Rattle.configurations.specs.Entering.{entryOn}
 use Rattle.judge.specs.Held.{listIn, Held, size-is, part-fits, list-length}
 
 -- the lists of an accepted map's zones in a state of its robots

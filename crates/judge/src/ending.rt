@@ -18,9 +18,9 @@ ghost use Rattle.judge.specs.Endings.{offZone};
 ghost use Rattle.judge.specs.Held.{listIn, Held};
 ghost use Rattle.judge.specs.Steps.{HasList};
 ghost use Rattle.judge.specs.Making.{Listed};
-use crate::lists::store;
-use hall::line::line_up;
+use lineup::line::line_up;
 use motion::State;
+use rosters::lists::store;
 
 // Writes zone z's list: its robots in order, and their number.
 fn fill_zone<'a>(
@@ -87,7 +87,7 @@ fn ends_zone<'a>(
     let mut robots = [0u8; 128];
     let mut places = [0u8; 128];
     let n = line_up(goals, &listed[a..e], &mut robots, &mut places);
-    crate::goals::can_end(kind[z], &cells[a..], count, m, &mut robots[..n])
+    configurations::goals::can_end(kind[z], &cells[a..], count, m, &mut robots[..n])
 }
 
 // The lowest zone that can't be brought to its goals; the number of zones where there is none.

@@ -1,22 +1,10 @@
 // Judging on configurations: each zone as the list of its robots, and no move is made.
 //
 //     tests     the tests of a step that read no list
-//     lists     lists of robots in lent bytes
-//     finding   a robot sought in a list
-//     members   the same robots in two lists
-//     leaving   who can leave a zone, by its list
-//     entering  who can enter, and the list afterwards
-//     goals     a zone's goals, by its list
 //     walk      a plan's steps walked on the lists
 //     ending    the lists as a state has them, and the goals of all zones
 //     plan      the whole plan
 pub mod ending;
-pub mod entering;
-pub mod finding;
-pub mod goals;
-pub mod leaving;
-pub mod lists;
-pub mod members;
 pub mod plan;
 pub mod tests;
 pub mod walk;

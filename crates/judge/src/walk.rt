@@ -11,9 +11,9 @@ ghost use Rattle.wire.specs.Payload.{payload};
 ghost use Rattle.orders.specs.Orders.{leaveTest, without, entered};
 ghost use Rattle.resolve.specs.Held.{heldPart};
 ghost use Rattle.resolve.specs.Given.{Given, kindAt};
-ghost use Rattle.judge.specs.Leaving.{LeaveFound};
-ghost use Rattle.judge.specs.Entering.{entryOn};
-ghost use Rattle.judge.specs.Lists.{Rewritten};
+ghost use Rattle.configurations.specs.Leaving.{LeaveFound};
+ghost use Rattle.configurations.specs.Entering.{entryOn};
+ghost use Rattle.rosters.specs.Lists.{Rewritten};
 ghost use Rattle.judge.specs.Held.{listIn, Held};
 ghost use Rattle.judge.specs.Steps.{Ready, HasList, Fits, extraOn, EntryTested, StepTested, Chosen};
 ghost use Rattle.judge.specs.Making.{Marching, Marched, TakesOut, PutsIn, Listed};
@@ -48,7 +48,7 @@ fn leave_at<'a>(
     let n = counts[z] as usize;
     let m = size[z] as usize;
     let j = place[u as usize] as usize;
-    let t = crate::leaving::leave_index(kind[z], &cells[a..], n, m, r, j);
+    let t = configurations::leaving::leave_index(kind[z], &cells[a..], n, m, r, j);
     if t < n {
         return t;
     }
@@ -100,7 +100,7 @@ fn test_entry(
         return no_entry(StepTest::Short);
     }
     if e == 0 {
-        let t = crate::entering::entry_at(kind, part, n, size, j, behind);
+        let t = configurations::entering::entry_at(kind, part, n, size, j, behind);
         if n < t {
             return no_entry(StepTest::Enter);
         }
@@ -109,7 +109,7 @@ fn test_entry(
             into: t,
         };
     }
-    if crate::entering::can_fill(file, o + 4, part, n, size, r, j, behind) {
+    if configurations::entering::can_fill(file, o + 4, part, n, size, r, j, behind) {
         return no_entry(StepTest::Passed(e));
     }
     no_entry(StepTest::Enter)
@@ -240,7 +240,7 @@ fn take_out<'a>(
     let z = zone[u as usize] as usize;
     let a = first[z] as usize;
     let n = counts[z] as usize;
-    crate::lists::remove(&mut cells[a..], n, t);
+    rosters::lists::remove(&mut cells[a..], n, t);
     counts[z] = (n - 1) as u8;
 }
 
@@ -261,9 +261,9 @@ fn enter_in(
     ensures { λ q. ⌜ ((behind : ℕ) → (e ≡ 0 → t ≡ entryOn kind behind (take n (now (part .entry)))) → Rewritten (now (part .entry)) size (entered kind size (take n (now (part .entry))) r j behind (heldPart (now (file .entry)) (from + e) from e)) (now (part .exit))) ⌝ }
 {
     if e == 0 {
-        crate::entering::enter_at(kind, part, n, size, t, r, j);
+        configurations::entering::enter_at(kind, part, n, size, t, r, j);
     } else {
-        crate::entering::fill_clique(file, from, part, size);
+        configurations::entering::fill_clique(file, from, part, size);
     }
 }
 

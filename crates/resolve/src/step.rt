@@ -18,7 +18,7 @@ ghost use Rattle.zones.specs.Kinds.{leaveMoves, enterMoves};
 ghost use Rattle.resolve.specs.Held.{heldPart};
 ghost use Rattle.resolve.specs.Tests.{Passes, stepMoves};
 ghost use Rattle.resolve.specs.Given.{Given, Stepping, HasVertex, kindAt, verticesAt};
-use crate::tests::copy_list;
+use crate::follow::copy_list;
 use numbering::Robot;
 use numbering::Vertex;
 use wire::Four;

@@ -7,8 +7,8 @@ ghost use Rattle.motion.specs.World.{worldIn};
 ghost use Rattle.resolve.specs.Given.{Started};
 ghost use Rattle.resolve.specs.Whole.{WalkedTo};
 use crate::Walked;
+use crate::follow::list_length_at;
 use crate::step::make_step;
-use crate::tests::list_length_at;
 
 // Walks `count` steps of the payload that stands in a checked file, which all pass, as long as the moves are not more than a list holds.
 pub fn walk<'a>(

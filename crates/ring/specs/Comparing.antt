@@ -22,10 +22,10 @@ use Rattle.theory.specs.Zones.Arrangements.{order-append, cell→member, member
 use Rattle.theory.specs.Basics.Searches.{seek-ok}
 use Rattle.motion.specs.Across.{arrangement-length, arrangement-at, arrangement-next}
 use Rattle.motion.specs.Cells.{seek-same, seek-other}
-use Rattle.ring.specs.Places.{wrap-is, wrap-in}
-use Rattle.ring.specs.Runs.{frame-size, frame-robot}
+use Rattle.circle.specs.Places.{wrap-is, wrap-in}
+use Rattle.circle.specs.Runs.{frame-size, frame-robot}
 use Rattle.motion.specs.Reading.{places-taken, places-free, places-over}
-use Rattle.ring.specs.Reading.{vacant, seek-finds}
+use Rattle.circle.specs.Reading.{vacant, seek-finds}
 
 -- ---- lists of robots, compared
 

@@ -28,8 +28,8 @@ use Rattle.motion.specs.Tables.{onVertices}
 use Rattle.motion.specs.World.{World, madeAll, made-none}
 use Rattle.motion.specs.Across.{made-both, across-nil, arrangement-length}
 use Rattle.motion.specs.Coupling.{Listed, Inside, arranged}
-use Rattle.ring.specs.Pushes.{inside-pushes}
-use Rattle.ring.specs.Entry.{opened-at}
+use Rattle.circle.specs.Pushes.{inside-pushes}
+use Rattle.circle.specs.Entry.{opened-at}
 use Rattle.motion.specs.Reading.{places-taken, places-free, places-over}
 use Rattle.ring.specs.Comparing.{end-full, end-open}
 

@@ -8,9 +8,9 @@ ghost use Rattle.spec.specs.Ring.{frame, turned};
 ghost use Rattle.spec.specs.State.{arrangementOf};
 ghost use Rattle.motion.specs.Tables.{onVertices};
 ghost use Rattle.ring.specs.Comparing.{Taken};
-use crate::places::around;
-use crate::reading::is_vacant;
-use crate::reading::robot_at;
+use circle::places::around;
+use circle::reading::is_vacant;
+use circle::reading::robot_at;
 use motion::place_of;
 
 // Do the same robots stand on the same places.

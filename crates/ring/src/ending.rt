@@ -7,8 +7,8 @@ ghost use Rattle.spec.specs.Ring.{opened};
 ghost use Rattle.spec.specs.State.{arrangementOf, cellOf};
 ghost use Rattle.motion.specs.Tables.{onVertices};
 ghost use Rattle.ring.specs.Ending.{lowestCell};
-use crate::places::next;
-use crate::reading::robot_at;
+use circle::places::next;
+use circle::reading::robot_at;
 use motion::vertex_at;
 use numbering::Robot;
 

@@ -1,9 +1,5 @@
 // Rings in motion (document 01, "Which moves are written"): what a ring can reach, and the moves that are written.
 //
-//     places    places in a circle
-//     reading   what is read of a ring's arrangement
-//     pushing   robots pushed forward
-//     turning   the robot behind a place, and where the next push of entering begins
 //     comparing whether goals are in a ring's configuration
 //     ending    the lowest-numbered robot, and the other places as a hall
 ghost use mathlib.Core.Path.{_≡_};
@@ -18,11 +14,14 @@ ghost use Rattle.motion.specs.Coupling.{Listed};
 
 mod comparing;
 mod ending;
-pub mod places;
-pub mod pushing;
-mod reading;
-pub mod turning;
 
+use circle::places::next;
+use circle::pushing::push;
+use circle::pushing::push_to;
+use circle::pushing::step;
+use circle::reading::is_vacant;
+use circle::turning::goes_on;
+use circle::turning::turn_place;
 use comparing::same_cells;
 use comparing::same_turned;
 use ending::lowest;
@@ -31,15 +30,6 @@ use motion::is_full;
 use motion::place_of;
 use motion::stands;
 use numbering::Robot;
-pub use places::next;
-pub use places::previous;
-pub use pushing::push;
-use pushing::push_to;
-use pushing::step;
-use reading::is_vacant;
-pub use turning::behind;
-use turning::goes_on;
-use turning::turn_place;
 
 // Can robot r leave at place j: anywhere, but in a full ring only where it stands.
 pub fn can_leave(robots: &[u8], zone: &[u8], r: Robot, j: usize) -> bool

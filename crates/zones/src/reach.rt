@@ -16,11 +16,11 @@ fn behind_round(robots: &[u8], zone: &[u8], j: usize) -> u8
     requires { ⌜ j < length (now zone) ⌝ }
     ensures { λ r. ⌜ r ≡ ringBehind (arrangementOf (onVertices (now (robots .entry))) (now (zone .entry))) j ⌝ }
 {
-    let r = hall::behind(robots, zone, 0, j);
+    let r = lineup::reach::behind(robots, zone, 0, j);
     if r != 255 {
         return r;
     }
-    hall::behind(robots, zone, j + 1, zone.len())
+    lineup::reach::behind(robots, zone, j + 1, zone.len())
 }
 
 // The neighbour that a step to place j names: its behind, from the lent table of the robots by vertex.
@@ -31,7 +31,7 @@ pub fn behind_of(kind: u8, robots: &[u8], zone: &[u8], j: usize) -> u8
     match kind {
         3 => 255,
         4 => behind_round(robots, zone, j),
-        _ => hall::behind(robots, zone, 0, j),
+        _ => lineup::reach::behind(robots, zone, 0, j),
     }
 }
 
@@ -59,7 +59,7 @@ pub fn can_leave(kind: u8, robots: &[u8], zone: &[u8], r: Robot, j: usize) -> bo
     match kind {
         3 => clique::can_leave(robots, zone, r, j),
         4 => ring::can_leave(robots, zone, r, j),
-        _ => hall::can_leave(robots, zone, r, j),
+        _ => lineup::reach::can_leave(robots, zone, r, j),
     }
 }
 
@@ -79,7 +79,7 @@ pub fn can_enter(
     match kind {
         3 => clique::can_enter(robots, zone, r, j, behind, list),
         4 => ring::can_enter(robots, zone, j, behind),
-        _ => hall::can_enter(robots, zone, j, behind),
+        _ => lineup::reach::can_enter(robots, zone, j, behind),
     }
 }
 
@@ -91,6 +91,6 @@ pub fn can_end(kind: u8, robots: &[u8], zone: &[u8], goals: &[u8]) -> bool
     match kind {
         3 => clique::can_end(robots, zone, goals),
         4 => ring::can_end(robots, zone, goals),
-        _ => hall::can_end(robots, zone, goals),
+        _ => lineup::reach::can_end(robots, zone, goals),
     }
 }

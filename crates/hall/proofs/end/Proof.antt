@@ -14,8 +14,8 @@ use Rattle.hall.proofs.end.Statement.{statement}
 use Rattle.hall.proofs.end.Tie as tie
 use Rattle.hall.proofs.end.Reads as reads
 use Rattle.hall.proofs.end.Lts as lts
-use Rattle.hall.proofs.least.Reads as least-reads
-use Rattle.hall.proofs.line.line_up.Reads as line-up-reads
+use Rattle.motion.proofs.least.Reads as least-reads
+use Rattle.lineup.proofs.line.line_up.Reads as line-up-reads
 use Rattle.hall.proofs.trips.settle.Reads as settle-reads
 
 -- src/lib.rt:118:35

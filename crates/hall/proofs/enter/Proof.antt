@@ -14,9 +14,9 @@ use Rattle.hall.proofs.enter.Statement.{statement}
 use Rattle.hall.proofs.enter.Tie as tie
 use Rattle.hall.proofs.enter.Reads as reads
 use Rattle.hall.proofs.enter.Lts as lts
-use Rattle.hall.proofs.goals.lower_than.Reads as lower-than-reads
-use Rattle.hall.proofs.goals.spread.Reads as spread-reads
-use Rattle.hall.proofs.line.line_up.Reads as line-up-reads
+use Rattle.lineup.proofs.goals.lower_than.Reads as lower-than-reads
+use Rattle.lineup.proofs.goals.spread.Reads as spread-reads
+use Rattle.lineup.proofs.line.line_up.Reads as line-up-reads
 use Rattle.hall.proofs.trips.settle.Reads as settle-reads
 
 -- src/lib.rt:88:35

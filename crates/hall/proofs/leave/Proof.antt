@@ -9,16 +9,16 @@ use Rattle.spec.specs.State.{arrangementOf, across}
 use Rattle.motion.specs.Tables.{onVertices}
 use Rattle.motion.specs.World.{worldIn, madeAll}
 use Rattle.motion.specs.Across.{arrangement-length}
-use Rattle.hall.specs.Goals.{index-most}
+use Rattle.lineup.specs.Goals.{index-most}
 use Rattle.hall.specs.Ends.{leave-is}
 use borrow.Author.Needs.{needs}
 use Rattle.hall.proofs.leave.Statement.{statement}
 use Rattle.hall.proofs.leave.Tie as tie
 use Rattle.hall.proofs.leave.Reads as reads
 use Rattle.hall.proofs.leave.Lts as lts
-use Rattle.hall.proofs.goals.index_of.Reads as index-of-reads
-use Rattle.hall.proofs.goals.spread.Reads as spread-reads
-use Rattle.hall.proofs.line.line_up.Reads as line-up-reads
+use Rattle.lineup.proofs.goals.index_of.Reads as index-of-reads
+use Rattle.lineup.proofs.goals.spread.Reads as spread-reads
+use Rattle.lineup.proofs.line.line_up.Reads as line-up-reads
 use Rattle.hall.proofs.trips.settle.Reads as settle-reads
 
 -- src/lib.rt:56:35

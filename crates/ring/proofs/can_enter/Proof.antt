@@ -4,13 +4,13 @@ use mathlib.Core.Path.{sym, _∙_}
 use Rattle.spec.specs.State.{arrangementOf}
 use Rattle.motion.specs.Tables.{onVertices}
 use Rattle.motion.specs.Across.{arrangement-length}
-use Rattle.ring.specs.Reading.{enter-inside, enter-vacant, enter-outside}
+use Rattle.circle.specs.Reading.{enter-inside, enter-vacant, enter-outside}
 use Rattle.ring.proofs.can_enter.Statement.{statement}
 use Rattle.ring.proofs.can_enter.Tie as tie
 use Rattle.ring.proofs.can_enter.Reads as reads
 use Rattle.ring.proofs.can_enter.Lts as lts
 use Rattle.motion.proofs.place_of.Reads as place-of-reads
-use Rattle.ring.proofs.reading.is_vacant.Reads as is-vacant-reads
+use Rattle.circle.proofs.reading.is_vacant.Reads as is-vacant-reads
 
 -- src/lib.rt:74:8
 place-of-requires : tie.Need-place-of-requires

@@ -4,7 +4,7 @@ use lib.Dec.{ltb}
 use Rattle.spec.specs.State.{arrangementOf}
 use Rattle.motion.specs.Tables.{onVertices}
 use Rattle.motion.specs.Across.{arrangement-length}
-use Rattle.ring.specs.Reading.{leave-full, leave-open}
+use Rattle.circle.specs.Reading.{leave-full, leave-open}
 use Rattle.ring.proofs.can_leave.Statement.{statement}
 use Rattle.ring.proofs.can_leave.Tie as tie
 use Rattle.ring.proofs.can_leave.Reads as reads

@@ -16,7 +16,7 @@ use Rattle.hall.proofs.end.Reads as end-reads
 use Rattle.motion.proofs.place_of.Reads as place-of-reads
 use Rattle.ring.proofs.ending.lowest.Reads as lowest-reads
 use Rattle.ring.proofs.ending.open_at.Reads as open-at-reads
-use Rattle.ring.proofs.pushing.push_to.Reads as push-to-reads
+use Rattle.circle.proofs.pushing.push_to.Reads as push-to-reads
 
 -- src/lib.rt:137:9
 lowest-requires : tie.Need-lowest-requires

@@ -10,17 +10,17 @@ use Rattle.motion.specs.Tables.{onVertices}
 use Rattle.motion.specs.World.{worldIn, madeAll}
 use Rattle.motion.specs.Coupling.{Listed}
 use Rattle.motion.specs.Across.{arrangement-length}
-use Rattle.ring.specs.Turns.{turnAt, turn-step, turn-over, turn-rest, begins-inside, turns-enter, turns-fit}
-use Rattle.ring.specs.Steps.{goesOn, goes-alone, turn-next}
+use Rattle.circle.specs.Turns.{turnAt, turn-step, turn-over, turn-rest, begins-inside, turns-enter, turns-fit}
+use Rattle.circle.specs.Steps.{goesOn, goes-alone, turn-next}
 use Rattle.ring.proofs.enter.Statement.{statement}
 use Rattle.ring.proofs.enter.Tie as tie
 use Rattle.ring.proofs.enter.Reads as reads
 use Rattle.ring.proofs.enter.Lts as lts
-use Rattle.ring.proofs.places.next.Reads as next-reads
-use Rattle.ring.proofs.pushing.push.Reads as push-reads
-use Rattle.ring.proofs.pushing.step.Reads as step-reads
-use Rattle.ring.proofs.turning.goes_on.Reads as goes-on-reads
-use Rattle.ring.proofs.turning.turn_place.Reads as turn-place-reads
+use Rattle.circle.proofs.places.next.Reads as next-reads
+use Rattle.circle.proofs.pushing.push.Reads as push-reads
+use Rattle.circle.proofs.pushing.step.Reads as step-reads
+use Rattle.circle.proofs.turning.goes_on.Reads as goes-on-reads
+use Rattle.circle.proofs.turning.turn_place.Reads as turn-place-reads
 
 abbrev Inv-loop : tie.InvT-loop
 Inv-loop robots₀ vertices₀ count zone j behind out₀ m count₀ left₀ p₀ robots vertices out count' left p =

@@ -5,13 +5,13 @@ use Rattle.spec.specs.State.{arrangementOf, across}
 use Rattle.motion.specs.Tables.{onVertices}
 use Rattle.motion.specs.World.{worldIn, madeAll}
 use Rattle.motion.specs.Across.{arrangement-length}
-use Rattle.ring.specs.Pushes.{leaves-to}
-use Rattle.ring.specs.Reading.{leave-inside}
+use Rattle.circle.specs.Pushes.{leaves-to}
+use Rattle.circle.specs.Reading.{leave-inside}
 use Rattle.ring.proofs.leave.Statement.{statement}
 use Rattle.ring.proofs.leave.Tie as tie
 use Rattle.ring.proofs.leave.Reads as reads
 use Rattle.ring.proofs.leave.Lts as lts
-use Rattle.ring.proofs.pushing.push_to.Reads as push-to-reads
+use Rattle.circle.proofs.pushing.push_to.Reads as push-to-reads
 
 -- src/lib.rt:67:5
 push-to-requires : tie.Need-push-to-requires

@@ -1,7 +1,7 @@
 use borrow.Author.Needs.{needs}
 use mathlib.Core.Path.{sym}
 use lib.ListN.{length}
-use Rattle.clique.specs.Comparing.{cells-length}
+use Rattle.comparing.specs.Comparing.{cells-length}
 use Rattle.clique.proofs.ending.bring_to_goals.Statement.{statement}
 use Rattle.clique.proofs.ending.bring_to_goals.Tie as tie
 

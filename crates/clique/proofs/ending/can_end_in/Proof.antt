@@ -4,7 +4,7 @@ use Rattle.spec.specs.State.{arrangementOf}
 use Rattle.motion.specs.Tables.{onVertices}
 use Rattle.motion.specs.Across.{arrangement-length}
 use Rattle.motion.specs.Cells.{overlaid-all}
-use Rattle.clique.specs.Comparing.{can-end-full, can-end-other}
+use Rattle.comparing.specs.Comparing.{can-end-full, can-end-other}
 use Rattle.spec.specs.Outcome.{sameList}
 use Rattle.spec.specs.Clique.{sameRobots}
 use borrow.Author.Needs.{needs}
@@ -12,8 +12,8 @@ use Rattle.clique.proofs.ending.can_end_in.Statement.{statement}
 use Rattle.clique.proofs.ending.can_end_in.Tie as tie
 use Rattle.clique.proofs.ending.can_end_in.Reads as reads
 use Rattle.clique.proofs.ending.can_end_in.Lts as lts
-use Rattle.clique.proofs.comparing.same_cells.Reads as same-cells-reads
-use Rattle.clique.proofs.comparing.same_robots.Reads as same-robots-reads
+use Rattle.comparing.proofs.same_cells.Reads as same-cells-reads
+use Rattle.comparing.proofs.same_robots.Reads as same-robots-reads
 use Rattle.motion.proofs.cells_of.Reads as cells-of-reads
 use Rattle.motion.proofs.is_full.Reads as is-full-reads
 

@@ -9,21 +9,21 @@ use Rattle.motion.specs.Tables.{onVertices}
 use Rattle.motion.specs.World.{worldIn, madeAll}
 use Rattle.motion.specs.Across.{arrangement-length}
 use Rattle.motion.specs.Cells.{overlaid-all}
-use Rattle.clique.specs.Comparing.{end-is}
-use Rattle.clique.specs.Table.{distinct-of}
+use Rattle.comparing.specs.Comparing.{end-is}
+use Rattle.arranging.specs.Table.{distinct-of}
 use native.Mathlib.Omega.{arith}
 use Rattle.spec.specs.Clique.{cliqueTo}
 use Rattle.clique.proofs.ending.end_in.Statement.{statement}
 use Rattle.clique.proofs.ending.end_in.Tie as tie
 
 cells-of-requires : tie.Need-cells-of-requires
-cells-of-requires c κs = search needs
+cells-of-requires c κs = tt
 
 cells-of-requires-2 : tie.Need-cells-of-requires-2
-cells-of-requires-2 c κs = search needs
+cells-of-requires-2 c κs = tt
 
 mul-n : tie.Need-mul-n
-mul-n c = search needs
+mul-n c = omega arith
 
 go-toward-requires : tie.Need-go-toward-requires
 go-toward-requires c κs =

@@ -37,7 +37,7 @@ returns c =
     (enter-fill (arrangementOf s z) 0 (p .j) 0 (p .list .now) (length z) (extra-fill (arrangementOf s z) (length (p .list .now)) (c .before .before .before .before .before .before .before .before .before .before .before .before .before .before .before .before .pre .0 .1) (c .before .before .before .before .before .before .before .before .before .before .if1 .taken) .0) (sym (arrangement-length s z)))
 
 make-room-requires : tie.Need-make-room-requires
-make-room-requires c κs = search needs
+make-room-requires c κs = tt
 
 same-length-4 : tie.Need-same-length-4
 same-length-4 c = search needs

@@ -2,7 +2,7 @@ use borrow.Author.Needs.{needs}
 use native.Mathlib.Omega.{arith}
 use mathlib.Core.Path.{sym}
 use lib.ListN.{length}
-use Rattle.clique.specs.Comparing.{cells-length}
+use Rattle.comparing.specs.Comparing.{cells-length}
 use Rattle.clique.proofs.entering.fill.Statement.{statement}
 use Rattle.clique.proofs.entering.fill.Tie as tie
 

@@ -10,20 +10,20 @@ use Rattle.motion.specs.World.{worldIn, madeAll}
 use Rattle.motion.specs.Across.{arrangement-length}
 use Rattle.motion.specs.Cells.{overlaid-all}
 use Rattle.clique.specs.Entering.{named-cells, cells-named}
-use Rattle.clique.specs.Table.{distinct-of}
+use Rattle.arranging.specs.Table.{distinct-of}
 use native.Mathlib.Omega.{arith}
 use Rattle.spec.specs.Clique.{cliqueTo}
 use Rattle.clique.proofs.entering.fill_in.Statement.{statement}
 use Rattle.clique.proofs.entering.fill_in.Tie as tie
 
 cells-of-requires : tie.Need-cells-of-requires
-cells-of-requires c κs = search needs
+cells-of-requires c κs = tt
 
 goal-cells-requires : tie.Need-goal-cells-requires
 goal-cells-requires c κs = search needs
 
 mul-n : tie.Need-mul-n
-mul-n c = search needs
+mul-n c = omega arith
 
 go-toward-requires : tie.Need-go-toward-requires
 go-toward-requires c κs =

@@ -12,7 +12,7 @@ use Rattle.clique.proofs.entering.names_inside_in.Statement.{statement}
 use Rattle.clique.proofs.entering.names_inside_in.Tie as tie
 use Rattle.clique.proofs.entering.names_inside_in.Reads as reads
 use Rattle.clique.proofs.entering.names_inside_in.Lts as lts
-use Rattle.clique.proofs.comparing.same_robots.Reads as same-robots-reads
+use Rattle.comparing.proofs.same_robots.Reads as same-robots-reads
 use Rattle.clique.proofs.entering.goal_cells.Reads as goal-cells-reads
 use Rattle.clique.proofs.entering.names_robots.Reads as names-robots-reads
 use Rattle.motion.proofs.cells_of.Reads as cells-of-reads

@@ -7,7 +7,8 @@ use Rattle.spec.specs.State.{arrangementOf, acrossMove}
 use Rattle.motion.specs.Tables.{onVertices}
 use Rattle.motion.specs.World.{World, worldIn, made}
 use Rattle.motion.specs.Across.{across-move}
-use Rattle.clique.specs.Leaving.{leave-stays, leave-alone, leave-both, made-nothing, made-single, made-pair}
+use Rattle.clique.specs.Leaving.{leave-stays, leave-alone, leave-both, made-single, made-pair}
+use Rattle.arranging.specs.Toward.{made-nothing}
 use borrow.Author.Needs.{needs}
 use Rattle.clique.proofs.leaving.leave.Statement.{statement}
 use Rattle.clique.proofs.leaving.leave.Tie as tie

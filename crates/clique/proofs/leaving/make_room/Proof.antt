@@ -4,7 +4,8 @@ use Rattle.spec.specs.Arrangement.{mv, seek}
 use Rattle.spec.specs.State.{arrangementOf}
 use Rattle.motion.specs.Tables.{onVertices}
 use Rattle.motion.specs.World.{worldIn, made}
-use Rattle.clique.specs.Leaving.{room-none, room-made, made-nothing, made-single}
+use Rattle.clique.specs.Leaving.{room-none, room-made, made-single}
+use Rattle.arranging.specs.Toward.{made-nothing}
 use borrow.Author.Needs.{needs}
 use Rattle.clique.proofs.leaving.make_room.Statement.{statement}
 use Rattle.clique.proofs.leaving.make_room.Tie as tie

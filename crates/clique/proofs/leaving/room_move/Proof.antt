@@ -11,7 +11,7 @@ use Rattle.clique.proofs.leaving.room_move.Statement.{statement}
 use Rattle.clique.proofs.leaving.room_move.Tie as tie
 use Rattle.clique.proofs.leaving.room_move.Reads as reads
 use Rattle.clique.proofs.leaving.room_move.Lts as lts
-use Rattle.clique.proofs.placing.first_free.Reads as first-free-reads
+use Rattle.arranging.proofs.placing.first_free.Reads as first-free-reads
 use Rattle.motion.proofs.vertex_at.Reads as vertex-at-reads
 
 -- src/leaving.rt:62:9

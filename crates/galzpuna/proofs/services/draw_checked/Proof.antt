@@ -5,7 +5,7 @@ use Rattle.galzpuna.proofs.services.draw_checked.Statement.{statement}
 use Rattle.galzpuna.proofs.services.draw_checked.Tie as tie
 use Rattle.galzpuna.proofs.services.draw_checked.Reads as reads
 use Rattle.galzpuna.proofs.services.draw_checked.Lts as lts
-use Rattle.galzpuna.proofs.files.open_list.Reads as open-list-reads
+use Rattle.opening.proofs.files.open_list.Reads as open-list-reads
 use Rattle.galzpuna.proofs.services.refuse.Reads as refuse-reads
 use Rattle.motion.proofs.standing.Reads as standing-reads
 use Rattle.drawing.proofs.draw_moves.Reads as draw-moves-reads

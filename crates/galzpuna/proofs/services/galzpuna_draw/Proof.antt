@@ -1,6 +1,6 @@
 use borrow.Author.Needs.{needs}
 use mathlib.Core.Path.{_∙_}
-use Rattle.galzpuna.specs.Opened.{chain-instance, filed-passed, filed-instance, filed-place}
+use Rattle.opening.specs.Opened.{chain-instance, filed-passed, filed-instance, filed-place}
 use Rattle.galzpuna.specs.Services.{draw-chain}
 use Rattle.galzpuna.proofs.services.galzpuna_draw.Statement.{statement}
 use Rattle.galzpuna.proofs.services.galzpuna_draw.Tie as tie

@@ -1,12 +1,12 @@
 use native.Mathlib.Omega.{arith}
 use mathlib.Core.Path.{_∙_}
-use Rattle.galzpuna.specs.Planned.{resolve-refused, count-few, resolve-delivered}
+use Rattle.galzpuna.specs.Plans.{resolve-refused, count-few, resolve-delivered}
 use borrow.Author.Needs.{needs}
 use Rattle.galzpuna.proofs.services.galzpuna_resolve.Statement.{statement}
 use Rattle.galzpuna.proofs.services.galzpuna_resolve.Tie as tie
 use Rattle.galzpuna.proofs.services.galzpuna_resolve.Reads as reads
 use Rattle.galzpuna.proofs.services.galzpuna_resolve.Lts as lts
-use Rattle.galzpuna.proofs.files.resolve_files.Reads as resolve-files-reads
+use Rattle.opening.proofs.files.resolve_files.Reads as resolve-files-reads
 use Rattle.galzpuna.proofs.services.refuse.Reads as refuse-reads
 use Rattle.answers.proofs.deliver.Reads as deliver-reads
 use Rattle.wire.proofs.put_word.Reads as put-word-reads

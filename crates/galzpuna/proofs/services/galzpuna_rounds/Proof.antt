@@ -1,6 +1,6 @@
 use borrow.Author.Needs.{needs}
 use mathlib.Core.Path.{_∙_}
-use Rattle.galzpuna.specs.Opened.{chain-instance, filed-passed, filed-instance, filed-place}
+use Rattle.opening.specs.Opened.{chain-instance, filed-passed, filed-instance, filed-place}
 use Rattle.galzpuna.specs.Services.{rounds-chain}
 use Rattle.galzpuna.proofs.services.galzpuna_rounds.Statement.{statement}
 use Rattle.galzpuna.proofs.services.galzpuna_rounds.Tie as tie

@@ -6,7 +6,7 @@ use Rattle.galzpuna.proofs.services.rounds_checked.Statement.{statement
 use Rattle.galzpuna.proofs.services.rounds_checked.Tie as tie
 use Rattle.galzpuna.proofs.services.rounds_checked.Reads as reads
 use Rattle.galzpuna.proofs.services.rounds_checked.Lts as lts
-use Rattle.galzpuna.proofs.files.open_list.Reads as open-list-reads
+use Rattle.opening.proofs.files.open_list.Reads as open-list-reads
 use Rattle.galzpuna.proofs.services.refuse.Reads as refuse-reads
 use Rattle.timing.proofs.write_rounds.Reads as write-rounds-reads
 use Rattle.answers.proofs.deliver.Reads as deliver-reads

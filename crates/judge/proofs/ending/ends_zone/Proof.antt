@@ -11,8 +11,8 @@ use Rattle.judge.proofs.ending.ends_zone.Statement.{statement}
 use Rattle.judge.proofs.ending.ends_zone.Tie as tie
 use Rattle.judge.proofs.ending.ends_zone.Reads as reads
 use Rattle.judge.proofs.ending.ends_zone.Lts as lts
-use Rattle.hall.proofs.line.line_up.Reads as line-up-reads
-use Rattle.judge.proofs.goals.can_end.Reads as can-end-reads
+use Rattle.lineup.proofs.line.line_up.Reads as line-up-reads
+use Rattle.configurations.proofs.goals.can_end.Reads as can-end-reads
 
 -- src/ending.rt:83:13
 element-copy-out-a : tie.Need-element-copy-out-a

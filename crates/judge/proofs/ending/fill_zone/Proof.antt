@@ -11,8 +11,8 @@ use Rattle.judge.proofs.ending.fill_zone.Statement.{statement}
 use Rattle.judge.proofs.ending.fill_zone.Tie as tie
 use Rattle.judge.proofs.ending.fill_zone.Reads as reads
 use Rattle.judge.proofs.ending.fill_zone.Lts as lts
-use Rattle.hall.proofs.line.line_up.Reads as line-up-reads
-use Rattle.judge.proofs.lists.store.Reads as store-reads
+use Rattle.lineup.proofs.line.line_up.Reads as line-up-reads
+use Rattle.rosters.proofs.lists.store.Reads as store-reads
 
 -- src/ending.rt:38:13
 element-copy-out-a : tie.Need-element-copy-out-a

@@ -5,13 +5,13 @@ use mathlib.Core.Path.{_≡_, sym, ap, _∙_}
 use lib.ListN.{take, length}
 use lib.Seq.{length-take-le}
 use Rattle.resolve.specs.Held.{heldPart}
-use Rattle.judge.specs.Lists.{put-as}
+use Rattle.rosters.specs.Lists.{put-as}
 use Rattle.judge.specs.Steps.{extra-zero, extra-some}
-use Rattle.judge.specs.Entering.{filled}
+use Rattle.configurations.specs.Entering.{filled}
 use Rattle.judge.proofs.walk.enter_in.Statement.{statement}
 use Rattle.judge.proofs.walk.enter_in.Tie as tie
-use Rattle.judge.proofs.entering.enter_at.Reads as enter-at-reads
-use Rattle.judge.proofs.entering.fill_clique.Reads as fill-clique-reads
+use Rattle.configurations.proofs.entering.enter_at.Reads as enter-at-reads
+use Rattle.configurations.proofs.entering.fill_clique.Reads as fill-clique-reads
 
 enter-at-requires : tie.Need-enter-at-requires
 enter-at-requires c κs =

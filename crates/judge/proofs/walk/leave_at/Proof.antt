@@ -6,11 +6,11 @@ use mathlib.Core.Path.{subst}
 use lib.ListN.{getD, take}
 use Rattle.orders.specs.Orders.{leaveTest}
 use Rattle.resolve.specs.Given.{kindAt}
-use Rattle.judge.specs.Held.{rest-is, rest-length}
-use Rattle.judge.specs.Leaving.{LeaveFound, found-within, found-none}
+use Rattle.rosters.specs.Lists.{rest-is, rest-length}
+use Rattle.configurations.specs.Leaving.{LeaveFound, found-within, found-none}
 use Rattle.judge.proofs.walk.leave_at.Statement.{statement}
 use Rattle.judge.proofs.walk.leave_at.Tie as tie
-use Rattle.judge.proofs.leaving.leave_index.Reads as leave-index-reads
+use Rattle.configurations.proofs.leaving.leave_index.Reads as leave-index-reads
 
 element-copy-out-z : tie.Need-element-copy-out-z
 element-copy-out-z c = search needs

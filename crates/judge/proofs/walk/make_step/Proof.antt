@@ -1,7 +1,7 @@
 use borrow.Author.Needs.{needs}
 use mathlib.Core.Path.{ap, _∙_}
 use Rattle.resolve.specs.Given.{kindAt}
-use Rattle.judge.specs.Entering.{entryOn}
+use Rattle.configurations.specs.Entering.{entryOn}
 use Rattle.judge.specs.Making.{marching-room, marching-out, marching-in, marching-still, marching-held, marching-many, marching-long}
 use Rattle.judge.proofs.walk.make_step.Statement.{statement}
 use Rattle.judge.proofs.walk.make_step.Tie as tie

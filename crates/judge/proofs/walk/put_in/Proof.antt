@@ -11,8 +11,9 @@ use Rattle.orders.specs.Orders.{entered}
 use Rattle.orders.specs.Lengths.{entered-length}
 use Rattle.resolve.specs.Given.{kindAt}
 use Rattle.resolve.specs.Held.{heldPart}
-use Rattle.judge.specs.Entering.{entryOn}
-use Rattle.judge.specs.Held.{rest-is, rest-length, changed-rest}
+use Rattle.configurations.specs.Entering.{entryOn}
+use Rattle.judge.specs.Held.{changed-rest}
+use Rattle.rosters.specs.Lists.{rest-is, rest-length}
 use Rattle.judge.specs.Steps.{extra-all}
 use Rattle.judge.proofs.walk.put_in.Statement.{statement}
 use Rattle.judge.proofs.walk.put_in.Tie as tie

@@ -7,11 +7,11 @@ use lib.Seq.{length-take-le}
 use native.Mathlib.Omega.{arith}
 use Rattle.orders.specs.Orders.{without}
 use Rattle.orders.specs.Lengths.{without-length}
-use Rattle.judge.specs.Lists.{wider}
+use Rattle.rosters.specs.Lists.{wider}
 use Rattle.judge.specs.Held.{changed-rest}
 use Rattle.judge.proofs.walk.take_out.Statement.{statement}
 use Rattle.judge.proofs.walk.take_out.Tie as tie
-use Rattle.judge.proofs.lists.remove.Reads as remove-reads
+use Rattle.rosters.proofs.lists.remove.Reads as remove-reads
 
 element-copy-out-z : tie.Need-element-copy-out-z
 element-copy-out-z c = search needs

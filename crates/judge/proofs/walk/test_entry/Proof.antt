@@ -9,12 +9,12 @@ use Rattle.wire.specs.Payload.{payload, held-length}
 use Rattle.orders.specs.Orders.{cliqueEnters}
 use Rattle.resolve.specs.Held.{heldPart}
 use Rattle.judge.specs.Testing.{entry-full, entry-short, entry-unmet, entry-met}
-use Rattle.judge.specs.Entering.{clique-enters}
+use Rattle.configurations.specs.Entering.{clique-enters}
 use Rattle.judge.specs.Steps.{is-full, not-full, extra-is, enters-by, extra-zero, extra-some, entry-refused, entry-filled}
 use Rattle.judge.proofs.walk.test_entry.Statement.{statement}
 use Rattle.judge.proofs.walk.test_entry.Tie as tie
-use Rattle.judge.proofs.entering.can_fill.Reads as can-fill-reads
-use Rattle.judge.proofs.entering.entry_at.Reads as entry-at-reads
+use Rattle.configurations.proofs.entering.can_fill.Reads as can-fill-reads
+use Rattle.configurations.proofs.entering.entry_at.Reads as entry-at-reads
 use Rattle.judge.proofs.walk.list_length.Reads as list-length-reads
 use Rattle.judge.proofs.walk.no_entry.Reads as no-entry-reads
 

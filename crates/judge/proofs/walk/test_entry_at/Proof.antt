@@ -4,7 +4,7 @@ use Prim.Native.Nat.{ℕ}
 use mathlib.Core.Path.{subst}
 use lib.ListN.{getD, take}
 use Rattle.resolve.specs.Given.{kindAt}
-use Rattle.judge.specs.Held.{rest-is}
+use Rattle.rosters.specs.Lists.{rest-is}
 use Rattle.judge.specs.Steps.{EntryTested}
 use Rattle.judge.proofs.walk.test_entry_at.Statement.{statement}
 use Rattle.judge.proofs.walk.test_entry_at.Tie as tie

@@ -1,6 +1,6 @@
 use Rattle.resolve.specs.Held.{heldPart}
 use Rattle.resolve.specs.Given.{part, kindAt, verticesAt}
-use Rattle.clique.specs.Comparing.{cells-length}
+use Rattle.comparing.specs.Comparing.{cells-length}
 use Rattle.zones.specs.Kinds.{enterMoves}
 use Rattle.motion.specs.World.{worldIn, madeAll}
 use Rattle.spec.specs.State.{arrangementOf, across}

@@ -13,7 +13,7 @@ use Rattle.resolve.proofs.step.enter_in.Statement.{statement}
 use Rattle.resolve.proofs.step.enter_in.Tie as tie
 use Rattle.resolve.proofs.step.enter_in.Reads as reads
 use Rattle.resolve.proofs.step.enter_in.Lts as lts
-use Rattle.resolve.proofs.tests.copy_list.Reads as copy-list-reads
+use Rattle.resolve.proofs.follow.copy_list.Reads as copy-list-reads
 use Rattle.zones.proofs.enter.Reads as enter-reads
 
 -- src/step.rt:79:5

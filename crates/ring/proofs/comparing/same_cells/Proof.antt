@@ -10,7 +10,7 @@ use Rattle.ring.proofs.comparing.same_cells.Statement.{statement}
 use Rattle.ring.proofs.comparing.same_cells.Tie as tie
 use Rattle.ring.proofs.comparing.same_cells.Reads as reads
 use Rattle.ring.proofs.comparing.same_cells.Lts as lts
-use Rattle.ring.proofs.reading.robot_at.Reads as robot-at-reads
+use Rattle.circle.proofs.reading.robot_at.Reads as robot-at-reads
 
 abbrev Inv-loop : tie.InvT-loop
 Inv-loop robots goals zone i₀ i =

@@ -8,15 +8,15 @@ use Rattle.spec.specs.Arrangement.{order}
 use Rattle.spec.specs.Ring.{frame}
 use Rattle.spec.specs.State.{robotOn, arrangementOf}
 use Rattle.motion.specs.Tables.{onVertices}
-use Rattle.ring.specs.Runs.{frame-size}
+use Rattle.circle.specs.Runs.{frame-size}
 use Rattle.ring.specs.Comparing.{rounds-free, rounds-short, rounds-differ, rounds-on, rounds-over}
 use Rattle.ring.proofs.comparing.same_round.Statement.{statement}
 use Rattle.ring.proofs.comparing.same_round.Tie as tie
 use Rattle.ring.proofs.comparing.same_round.Reads as reads
 use Rattle.ring.proofs.comparing.same_round.Lts as lts
 use Rattle.ring.proofs.comparing.taken_from.Reads as taken-from-reads
-use Rattle.ring.proofs.places.around.Reads as around-reads
-use Rattle.ring.proofs.reading.robot_at.Reads as robot-at-reads
+use Rattle.circle.proofs.places.around.Reads as around-reads
+use Rattle.circle.proofs.reading.robot_at.Reads as robot-at-reads
 
 abbrev Inv-loop : tie.InvT-loop
 Inv-loop robots goals zone q m i₀ k₀ i k =

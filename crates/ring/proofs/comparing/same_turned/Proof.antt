@@ -6,7 +6,7 @@ use Rattle.spec.specs.State.{arrangementOf}
 use Rattle.motion.specs.Tables.{onVertices}
 use Rattle.motion.specs.Across.{arrangement-length}
 use Prim.Native.Nat.{suc}
-use Rattle.ring.specs.Reading.{seek-within}
+use Rattle.circle.specs.Reading.{seek-within}
 use Rattle.ring.specs.Comparing.{turned-none, turned-from, turned-out, first-none, first-robot}
 use Rattle.ring.proofs.comparing.same_turned.Statement.{statement}
 use Rattle.ring.proofs.comparing.same_turned.Tie as tie
@@ -15,8 +15,8 @@ use Rattle.ring.proofs.comparing.same_turned.Lts as lts
 use Rattle.motion.proofs.place_of.Reads as place-of-reads
 use Rattle.ring.proofs.comparing.same_round.Reads as same-round-reads
 use Rattle.ring.proofs.comparing.taken_from.Reads as taken-from-reads
-use Rattle.ring.proofs.reading.is_vacant.Reads as is-vacant-reads
-use Rattle.ring.proofs.reading.robot_at.Reads as robot-at-reads
+use Rattle.circle.proofs.reading.is_vacant.Reads as is-vacant-reads
+use Rattle.circle.proofs.reading.robot_at.Reads as robot-at-reads
 
 -- src/comparing.rt:82:9
 taken-from-requires : tie.Need-taken-from-requires

@@ -12,8 +12,8 @@ use Rattle.ring.proofs.comparing.taken_from.Statement.{statement}
 use Rattle.ring.proofs.comparing.taken_from.Tie as tie
 use Rattle.ring.proofs.comparing.taken_from.Reads as reads
 use Rattle.ring.proofs.comparing.taken_from.Lts as lts
-use Rattle.ring.proofs.places.around.Reads as around-reads
-use Rattle.ring.proofs.reading.robot_at.Reads as robot-at-reads
+use Rattle.circle.proofs.places.around.Reads as around-reads
+use Rattle.circle.proofs.reading.robot_at.Reads as robot-at-reads
 
 abbrev Inv-loop : tie.InvT-loop
 Inv-loop robots zone p k m i₀ i =

@@ -11,7 +11,7 @@ use Rattle.ring.proofs.ending.lowest.Statement.{statement}
 use Rattle.ring.proofs.ending.lowest.Tie as tie
 use Rattle.ring.proofs.ending.lowest.Reads as reads
 use Rattle.ring.proofs.ending.lowest.Lts as lts
-use Rattle.ring.proofs.reading.robot_at.Reads as robot-at-reads
+use Rattle.circle.proofs.reading.robot_at.Reads as robot-at-reads
 
 abbrev Inv-loop : tie.InvT-loop
 Inv-loop robots zone best₀ k₀ best k = (k ≤ length zone) × (best ≤ 255) × (cellOf best ≡ lowestCell (order (drop k (arrangementOf (onVertices robots) zone))))

@@ -4,14 +4,14 @@ use Prim.Native.Nat.{ℕ, _+_, _-_, _≤_, _<_}
 use mathlib.Core.Path.{_≡_, refl, ap, sym, _∙_}
 use lib.ListN.{length, getD, take, length-set}
 use Rattle.spec.specs.Ring.{wrap, opened}
-use Rattle.ring.specs.Places.{nextPlace, wrap-in, wrap-under, wrap-next}
+use Rattle.circle.specs.Places.{nextPlace, wrap-in, wrap-under, wrap-next}
 use Rattle.ring.specs.Ending.{opened-copy, opened-copied}
 use Rattle.ring.proofs.ending.open_at.Statement.{statement}
 use Rattle.ring.proofs.ending.open_at.Tie as tie
 use Rattle.ring.proofs.ending.open_at.Reads as reads
 use Rattle.ring.proofs.ending.open_at.Lts as lts
 use Rattle.motion.proofs.vertex_at.Reads as vertex-at-reads
-use Rattle.ring.proofs.places.next.Reads as next-reads
+use Rattle.circle.proofs.places.next.Reads as next-reads
 
 abbrev Inv-loop : tie.InvT-loop
 Inv-loop zone j others₀ n at₀ i₀ others at i =

@@ -7,7 +7,7 @@ use Rattle.zones.proofs.reach.can_end.Tie as tie
 use Rattle.zones.proofs.reach.can_end.Reads as reads
 use Rattle.zones.proofs.reach.can_end.Lts as lts
 use Rattle.clique.proofs.can_end.Reads as ending-can-end-reads
-use Rattle.hall.proofs.can_end.Reads as reach-can-end-reads
+use Rattle.lineup.proofs.reach.can_end.Reads as reach-can-end-reads
 use Rattle.ring.proofs.can_end.Reads as can-end-reads
 
 -- src/reach.rt:92:14

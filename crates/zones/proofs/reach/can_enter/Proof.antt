@@ -7,7 +7,7 @@ use Rattle.zones.proofs.reach.can_enter.Tie as tie
 use Rattle.zones.proofs.reach.can_enter.Reads as reads
 use Rattle.zones.proofs.reach.can_enter.Lts as lts
 use Rattle.clique.proofs.can_enter.Reads as entering-can-enter-reads
-use Rattle.hall.proofs.can_enter.Reads as reach-can-enter-reads
+use Rattle.lineup.proofs.reach.can_enter.Reads as reach-can-enter-reads
 use Rattle.ring.proofs.can_enter.Reads as can-enter-reads
 
 -- src/reach.rt:80:14

@@ -7,7 +7,7 @@ use Rattle.zones.proofs.reach.can_leave.Tie as tie
 use Rattle.zones.proofs.reach.can_leave.Reads as reads
 use Rattle.zones.proofs.reach.can_leave.Lts as lts
 use Rattle.clique.proofs.can_leave.Reads as leaving-can-leave-reads
-use Rattle.hall.proofs.can_leave.Reads as reach-can-leave-reads
+use Rattle.lineup.proofs.reach.can_leave.Reads as reach-can-leave-reads
 use Rattle.ring.proofs.can_leave.Reads as can-leave-reads
 
 -- src/reach.rt:60:14
