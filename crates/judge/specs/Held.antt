@@ -21,7 +21,7 @@ use Rattle.theory.specs.Plans.Step.{Made, made, proper, absent}
 use Rattle.orders.specs.Orders.{Holds, without, entered}
 use Rattle.orders.specs.Leaving.{left}
 use Rattle.orders.specs.Entering.{entered-holds}
-use Rattle.resolve.specs.Given.{Given}
+use Rattle.stepping.specs.Given.{Given}
 use Rattle.rosters.specs.Lists.{Rewritten, append-left, append-right, rest-is}
 
 -- the list of zone z

@@ -26,10 +26,10 @@ use Rattle.judge.specs.declared.PlanFault.the-variants as plan
 use Rattle.judge.specs.declared.StepTest.{StepTest}
 use Rattle.judge.specs.declared.StepTest.the-variants as step
 use Rattle.judge.specs.Fault.{testOf, test-passed, refusalOf, faultOf, fault-then}
-use Rattle.resolve.specs.Given.{Given}
-use Rattle.resolve.specs.Tests.{stepTests, stepMoves, step-tests, tests-passed}
-use Rattle.resolve.specs.Walk.{Walking, after, walk-start, walk-left, walk-more, walk-end}
-use Rattle.resolve.specs.Whole.{fresh, resolvedOn, on-none, on-steps, on-refused, on-surplus, on-goals}
+use Rattle.stepping.specs.Given.{Given}
+use Rattle.stepping.specs.Tests.{stepTests, stepMoves, step-tests, tests-passed}
+use Rattle.stepping.specs.Walk.{Walking, after, walk-start, walk-left, walk-more, walk-end}
+use Rattle.stepping.specs.Left.{fresh, resolvedOn, on-none, on-steps, on-refused, on-surplus, on-goals}
 use Rattle.judge.specs.Held.{listIn, Held, size-is}
 use Rattle.judge.specs.Making.{Marching, Marched}
 

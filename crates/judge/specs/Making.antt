@@ -25,10 +25,10 @@ use Rattle.wire.specs.Payload as wire
 use Rattle.lineup.specs.Reach.{member-index}
 use Rattle.orders.specs.Orders.{Holds, packed, without, entered}
 use Rattle.orders.specs.Packed.{packed-order}
-use Rattle.resolve.specs.Tests.{Passes, stepMoves}
-use Rattle.resolve.specs.Given.{Given, zone-is, kind-is, place-is, kindAt}
-use Rattle.resolve.specs.Held.{heldPart, held-same}
-use Rattle.resolve.specs.Steps.{byte-is}
+use Rattle.stepping.specs.Tests.{Passes, stepMoves}
+use Rattle.stepping.specs.Given.{Given, zone-is, kind-is, place-is, kindAt}
+use Rattle.stepping.specs.Held.{heldPart, held-same}
+use Rattle.stepping.specs.Steps.{byte-is}
 use Rattle.judge.specs.Held.{listIn, Held, Changed, stood, still, step-held, step-many, step-room, size-is}
 use Rattle.judge.specs.Steps.{Fits, fits, counted, extraOn, extra-is, is-full}
 

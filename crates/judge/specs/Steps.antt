@@ -21,10 +21,10 @@ use Rattle.theory.specs.Plans.Step.{proper}
 use Rattle.orders.specs.Orders.{Holds, leaveTest, enterTest}
 use Rattle.orders.specs.Tests.{full-is, last-is, leave-is, enter-is}
 use Rattle.zones.specs.Tables as zones
-use Rattle.resolve.specs.Given.{Given, kindAt, verticesAt, zone-is, kind-is, vertices-is, place-is}
+use Rattle.stepping.specs.Given.{Given, kindAt, verticesAt, zone-is, kind-is, vertices-is, place-is}
 use Rattle.wire.specs.Payload.{payload, FourAt}
 use Rattle.wire.specs.declared.Four.{Four}
-use Rattle.resolve.specs.Tests.{entryTests, stepTests}
+use Rattle.stepping.specs.Tests.{entryTests, stepTests}
 use Rattle.judge.specs.declared.StepTest.{StepTest}
 use Rattle.judge.specs.declared.StepTest.the-variants as step
 use Rattle.judge.specs.Fault.{testOf}

@@ -18,9 +18,9 @@ use Rattle.theory.specs.Zones.Crossing.{extraOf}
 use Rattle.adjacency.specs.Rows.{bitAt, shows-joined}
 use Rattle.wire.specs.Payload.{payload, held-length}
 use Rattle.wire.specs.Payload as wire
-use Rattle.resolve.specs.Tests.{numbered, crosses, entryTests, stepTests}
-use Rattle.resolve.specs.Given.{Given, kindAt, verticesAt, zone-is, kind-is, vertices-is, place-is}
-use Rattle.resolve.specs.Steps.{byte-is}
+use Rattle.stepping.specs.Tests.{numbered, crosses, entryTests, stepTests}
+use Rattle.stepping.specs.Given.{Given, kindAt, verticesAt, zone-is, kind-is, vertices-is, place-is}
+use Rattle.stepping.specs.Steps.{byte-is}
 
 -- ---- the numbers of a step
 

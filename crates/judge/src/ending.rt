@@ -13,7 +13,7 @@ ghost use Rattle.motion.specs.States.{stateOf};
 ghost use Rattle.motion.specs.Tables.{onVertices};
 ghost use Rattle.zones.specs.Tables.{verticesIn};
 ghost use Rattle.orders.specs.Orders.{endTest};
-ghost use Rattle.resolve.specs.Given.{Given, HasZone};
+ghost use Rattle.stepping.specs.Given.{Given, HasZone};
 ghost use Rattle.judge.specs.Endings.{offZone};
 ghost use Rattle.judge.specs.Held.{listIn, Held};
 ghost use Rattle.judge.specs.Steps.{HasList};

@@ -6,7 +6,7 @@ ghost use Rattle.spec.specs.Layout.{Map, Placing};
 ghost use Rattle.spec.specs.Terms.{zoneCount};
 ghost use Rattle.theory.specs.Maps.Placing.{Placed};
 ghost use Rattle.wire.specs.Payload.{payload};
-ghost use Rattle.resolve.specs.Given.{Given, Placement};
+ghost use Rattle.stepping.specs.Given.{Given, Placement};
 ghost use Rattle.judge.specs.Judging.{JudgedTo};
 use crate::PlanFault;
 use crate::ending::fill_lists;

@@ -25,7 +25,7 @@ use Rattle.checking.specs.Checked.{Whole}
 use Rattle.wire.specs.Laid.{laidAll, laid-length}
 use Rattle.answers.specs.Delivered.{deliveredOf, delivered-counted, delivered-over, fits-over}
 use Rattle.zones.specs.Tables.{Tables}
-use Rattle.resolve.specs.Given.{Given, Placement, Cleared}
+use Rattle.stepping.specs.Given.{Given, Placement, Cleared}
 use Rattle.resolve.specs.Whole.{ResolvedOr}
 use Rattle.judge.specs.Fault.{faultOf}
 use Rattle.judge.specs.Judging.{JudgedTo}

@@ -6,7 +6,7 @@ ghost use Rattle.spec.specs.Layout.{Map, Placing};
 ghost use Rattle.spec.specs.Terms.{zoneCount};
 ghost use Rattle.theory.specs.Maps.Placing.{Placed};
 ghost use Rattle.wire.specs.Payload.{payload};
-ghost use Rattle.resolve.specs.Given.{Given, Placement, Cleared};
+ghost use Rattle.stepping.specs.Given.{Given, Placement, Cleared};
 ghost use Rattle.resolve.specs.Whole.{ResolvedOr};
 ghost use Rattle.adjacency.specs.Rows.{blank};
 ghost use Rattle.opening.specs.Opened.{MapFiled, OpenedIs, YardIs};

@@ -16,7 +16,7 @@ ghost use Rattle.motion.specs.Tables.{tabled, onVertices};
 ghost use Rattle.motion.specs.World.{worldIn, madeAll};
 ghost use Rattle.zones.specs.Kinds.{endMoves};
 ghost use Rattle.zones.specs.Tables.{verticesIn};
-ghost use Rattle.resolve.specs.Given.{Given, HasZone, Bringing};
+ghost use Rattle.stepping.specs.Given.{Given, HasZone, Bringing};
 
 // The moves that bring zone z to its goals, which can be reached.
 fn end_zone<'a>(

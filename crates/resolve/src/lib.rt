@@ -1,15 +1,11 @@
 // A cleared plan's moves (document 01, "Which moves are written"): the plan is walked on a state, and its moves are laid into a buffer. Judging has
 // tested the plan (crate `judge`), so nothing is tested here.
 //
-//     follow  the follow list of a step
-//     step    the moves of a step
 //     walk    the steps, one after the other
 //     ending  the goals, reached
 //     plan    the whole plan
 mod ending;
-pub mod follow;
 pub mod plan;
-mod step;
 mod walk;
 
 pub use plan::resolve_plan;

@@ -1,7 +1,7 @@
 // A whole cleared plan resolved: the count, the steps, the endings.
 ghost use lib.ListN.{take};
 ghost use Rattle.wire.specs.Payload.{payload};
-ghost use Rattle.resolve.specs.Given.{Cleared};
+ghost use Rattle.stepping.specs.Given.{Cleared};
 ghost use Rattle.resolve.specs.Whole.{ResolvedOr};
 use crate::Resolved;
 use crate::ending::end_zones;

@@ -4,11 +4,11 @@ ghost use lib.ListN.{take};
 ghost use Rattle.wire.specs.Payload.{payload};
 ghost use Rattle.motion.specs.Tables.{tabled};
 ghost use Rattle.motion.specs.World.{worldIn};
-ghost use Rattle.resolve.specs.Given.{Started};
+ghost use Rattle.stepping.specs.Given.{Started};
 ghost use Rattle.resolve.specs.Whole.{WalkedTo};
 use crate::Walked;
-use crate::follow::list_length_at;
-use crate::step::make_step;
+use stepping::follow::list_length_at;
+use stepping::step::make_step;
 
 // Walks `count` steps of the payload that stands in a checked file, which all pass, as long as the moves are not more than a list holds.
 pub fn walk<'a>(

@@ -7,7 +7,7 @@ use lib.ListN.{length, length-set}
 use Rattle.spec.specs.Layout.{Map}
 use Rattle.spec.specs.Terms.{zoneCount}
 use Rattle.motion.specs.States.{stateOf}
-use Rattle.resolve.specs.Given.{Given}
+use Rattle.stepping.specs.Given.{Given}
 use Rattle.judge.specs.Filling.{filled-by, Filled, filled-none, filled-more, filled-all}
 use Rattle.judge.proofs.ending.fill_lists.Statement.{statement}
 use Rattle.judge.proofs.ending.fill_lists.Tie as tie

@@ -4,7 +4,7 @@ use Prim.Native.Nat.{_+_, _-_, _≤_}
 use lib.ListN.{length, getD, take, drop}
 use lib.Seq.{length-take-le}
 use Rattle.motion.specs.Tables.{onVertices}
-use Rattle.resolve.specs.Given.{part}
+use Rattle.stepping.specs.Given.{part}
 use Rattle.judge.specs.Filling.{lined-small, lined-fits, filled-zone}
 use borrow.Author.Needs.{needs}
 use Rattle.judge.proofs.ending.fill_zone.Statement.{statement}

@@ -12,7 +12,7 @@ use Rattle.spec.specs.Run.{goalsFrom}
 use Rattle.spec.specs.Terms.{zoneCount}
 use Rattle.theory.specs.Maps.Consistent.{Consistent}
 use Rattle.motion.specs.States.{stateOf}
-use Rattle.resolve.specs.Given.{Given}
+use Rattle.stepping.specs.Given.{Given}
 use Rattle.judge.specs.Endings.{offZone, goals-next, goals-off, goals-all}
 use Rattle.judge.specs.Held.{Held}
 use Rattle.judge.specs.Judging.{ends-by}

@@ -4,9 +4,9 @@ use borrow.Kind.Array.{eInt, good-length}
 use denote.Enum.Declared.{tagOf}
 use Rattle.judge.proofs.PlanFault.{the-type}
 use Rattle.judge.specs.declared.PlanFault.the-variants as plan
-use Rattle.resolve.specs.Whole.{start-consistent}
+use Rattle.stepping.specs.Left.{start-consistent}
 use Rattle.judge.specs.Fault.{other-fault}
-use Rattle.resolve.specs.Given.{has-zone}
+use Rattle.stepping.specs.Given.{has-zone}
 use Rattle.judge.specs.Endings.{off-some, off-none}
 use Rattle.wire.specs.Payload.{payload}
 use Rattle.spec.specs.State as meaning

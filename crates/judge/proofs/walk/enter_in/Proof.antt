@@ -4,7 +4,7 @@ use Prim.Native.Nat.{ℕ, suc, _+_}
 use mathlib.Core.Path.{_≡_, sym, ap, _∙_}
 use lib.ListN.{take, length}
 use lib.Seq.{length-take-le}
-use Rattle.resolve.specs.Held.{heldPart}
+use Rattle.stepping.specs.Held.{heldPart}
 use Rattle.rosters.specs.Lists.{put-as}
 use Rattle.judge.specs.Steps.{extra-zero, extra-some}
 use Rattle.configurations.specs.Entering.{filled}

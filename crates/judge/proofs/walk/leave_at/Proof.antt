@@ -5,7 +5,7 @@ use Prim.Native.Nat.{ℕ, _-_}
 use mathlib.Core.Path.{subst}
 use lib.ListN.{getD, take}
 use Rattle.orders.specs.Orders.{leaveTest}
-use Rattle.resolve.specs.Given.{kindAt}
+use Rattle.stepping.specs.Given.{kindAt}
 use Rattle.rosters.specs.Lists.{rest-is, rest-length}
 use Rattle.configurations.specs.Leaving.{LeaveFound, found-within, found-none}
 use Rattle.judge.proofs.walk.leave_at.Statement.{statement}

@@ -9,8 +9,8 @@ use native.Mathlib.Omega.{arith}
 use Rattle.wire.specs.Payload.{payload, held-length}
 use Rattle.orders.specs.Orders.{entered}
 use Rattle.orders.specs.Lengths.{entered-length}
-use Rattle.resolve.specs.Given.{kindAt}
-use Rattle.resolve.specs.Held.{heldPart}
+use Rattle.stepping.specs.Given.{kindAt}
+use Rattle.stepping.specs.Held.{heldPart}
 use Rattle.configurations.specs.Entering.{entryOn}
 use Rattle.judge.specs.Held.{changed-rest}
 use Rattle.rosters.specs.Lists.{rest-is, rest-length}

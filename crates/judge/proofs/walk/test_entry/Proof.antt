@@ -7,7 +7,7 @@ use lib.Seq.{length-take-le}
 use Rattle.spec.specs.Outcome.{ok}
 use Rattle.wire.specs.Payload.{payload, held-length}
 use Rattle.orders.specs.Orders.{cliqueEnters}
-use Rattle.resolve.specs.Held.{heldPart}
+use Rattle.stepping.specs.Held.{heldPart}
 use Rattle.judge.specs.Testing.{entry-full, entry-short, entry-unmet, entry-met}
 use Rattle.configurations.specs.Entering.{clique-enters}
 use Rattle.judge.specs.Steps.{is-full, not-full, extra-is, enters-by, extra-zero, extra-some, entry-refused, entry-filled}

@@ -3,7 +3,7 @@ use mathlib.Core.List.{List}
 use Prim.Native.Nat.{ℕ}
 use mathlib.Core.Path.{subst}
 use lib.ListN.{getD, take}
-use Rattle.resolve.specs.Given.{kindAt}
+use Rattle.stepping.specs.Given.{kindAt}
 use Rattle.rosters.specs.Lists.{rest-is}
 use Rattle.judge.specs.Steps.{EntryTested}
 use Rattle.judge.proofs.walk.test_entry_at.Statement.{statement}

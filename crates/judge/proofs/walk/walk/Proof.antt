@@ -2,7 +2,7 @@ use borrow.Author.Needs.{needs}
 use Rattle.judge.specs.Fault.{refusalOf, other-tag}
 use denote.Enum.Declared.{tagOf}
 use Rattle.judge.proofs.StepTest.{the-type}
-use Rattle.resolve.specs.Given.{Given}
+use Rattle.stepping.specs.Given.{Given}
 use Rattle.theory.specs.Maps.Consistent.{Consistent}
 use Rattle.spec.specs.Layout.{Map}
 use Rattle.spec.specs.State.{State}

@@ -1,4 +1,4 @@
-use Rattle.resolve.specs.Given.{part}
+use Rattle.stepping.specs.Given.{part}
 use Rattle.zones.specs.Kinds.{endMoves}
 use Rattle.spec.specs.State.{across}
 use Rattle.motion.specs.World.{worldIn, madeAll}

@@ -1,5 +1,5 @@
-use Rattle.resolve.specs.Endings.{Ending, ending-start, ending-can, ending-next, ending-end}
-use Rattle.resolve.specs.Given.{Given, has-zone, ends-is, end-moves-is}
+use Rattle.stepping.specs.Endings.{Ending, ending-start, ending-can, ending-next, ending-end}
+use Rattle.stepping.specs.Given.{Given, has-zone, ends-is, end-moves-is}
 use Rattle.theory.specs.Maps.Consistent.{Consistent}
 use Rattle.theory.specs.Plans.Step.{proper}
 use Rattle.spec.specs.Terms.{zoneCount}

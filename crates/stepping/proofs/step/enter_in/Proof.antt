@@ -9,11 +9,11 @@ use Prim.Native.Nat.{ℕ, _+_}
 use mathlib.Core.List.{List}
 use mathlib.Core.Path.{ap, _∙_}
 use borrow.Author.Needs.{needs}
-use Rattle.resolve.proofs.step.enter_in.Statement.{statement}
-use Rattle.resolve.proofs.step.enter_in.Tie as tie
-use Rattle.resolve.proofs.step.enter_in.Reads as reads
-use Rattle.resolve.proofs.step.enter_in.Lts as lts
-use Rattle.resolve.proofs.follow.copy_list.Reads as copy-list-reads
+use Rattle.stepping.proofs.step.enter_in.Statement.{statement}
+use Rattle.stepping.proofs.step.enter_in.Tie as tie
+use Rattle.stepping.proofs.step.enter_in.Reads as reads
+use Rattle.stepping.proofs.step.enter_in.Lts as lts
+use Rattle.stepping.proofs.follow.copy_list.Reads as copy-list-reads
 use Rattle.zones.proofs.enter.Reads as enter-reads
 
 -- src/step.rt:79:5

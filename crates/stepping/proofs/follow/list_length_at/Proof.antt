@@ -1,4 +1,4 @@
-use Rattle.resolve.specs.Given.{part, kindAt}
+use Rattle.stepping.specs.Given.{part, kindAt}
 use Rattle.theory.specs.Zones.Crossing.{extraOf}
 use Rattle.spec.specs.State.{arrangementOf}
 use Rattle.motion.specs.Tables.{onVertices}
@@ -7,8 +7,8 @@ use Prim.Native.Nat.{ℕ}
 use mathlib.Core.List.{List}
 use mathlib.Core.Path.{ap, _∙_}
 use borrow.Author.Needs.{needs}
-use Rattle.resolve.proofs.follow.list_length_at.Statement.{statement}
-use Rattle.resolve.proofs.follow.list_length_at.Tie as tie
+use Rattle.stepping.proofs.follow.list_length_at.Statement.{statement}
+use Rattle.stepping.proofs.follow.list_length_at.Tie as tie
 
 element-copy-out-z : tie.Need-element-copy-out-z
 element-copy-out-z c = search needs

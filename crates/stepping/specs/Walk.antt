@@ -21,7 +21,7 @@ use Rattle.theory.specs.Plans.Taken.{Taken, leaving, entering, movesOf}
 use Rattle.theory.specs.Plans.Step.{proper, made}
 use Rattle.motion.specs.World.{World, madeAll, made-append, made-one, state-is}
 use Rattle.motion.specs.World as world
-use Rattle.resolve.specs.Tests.{stepTests, stepMoves, stepRan, step-tests, tests-passed}
+use Rattle.stepping.specs.Tests.{stepTests, stepMoves, stepRan, step-tests, tests-passed}
 
 -- what steps come to, with moves made before them
 unfoldable pub after : List Move → Outcome Ran → Outcome Ran

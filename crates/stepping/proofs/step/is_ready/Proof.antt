@@ -2,10 +2,10 @@ use mathlib.Core.Path.{sym, _∙_}
 use lib.Dec.{eqb→eq}
 use Rattle.theory.specs.Basics.Tests.{of-true}
 use borrow.Author.Needs.{needs}
-use Rattle.resolve.proofs.step.is_ready.Statement.{statement}
-use Rattle.resolve.proofs.step.is_ready.Tie as tie
-use Rattle.resolve.proofs.step.is_ready.Reads as reads
-use Rattle.resolve.proofs.step.is_ready.Lts as lts
+use Rattle.stepping.proofs.step.is_ready.Statement.{statement}
+use Rattle.stepping.proofs.step.is_ready.Tie as tie
+use Rattle.stepping.proofs.step.is_ready.Reads as reads
+use Rattle.stepping.proofs.step.is_ready.Lts as lts
 use Rattle.motion.proofs.robot_in.Reads as robot-in-reads
 use Rattle.zones.proofs.behind_of.Reads as behind-of-reads
 

@@ -19,7 +19,7 @@ use Rattle.adjacency.specs.Rows.{Shows}
 use Rattle.motion.specs.Coupling.{Listed}
 use Rattle.zones.specs.Tables.{Tables, verticesIn, zone-listed, zone-small}
 use Rattle.wire.specs.Payload.{payload}
-use Rattle.resolve.specs.Tests.{Passes}
+use Rattle.stepping.specs.Tests.{Passes}
 
 -- an accepted map m of n vertices, whose tables and rows these are, for k robots
 pub record Given (m : Map) (n k : ℕ) (kind first size listed zone place : List ℕ) (rows : List (List ℕ)) : Type 0 where

@@ -1,5 +1,5 @@
-use Rattle.resolve.specs.Steps.{left-ready}
-use Rattle.resolve.specs.Given.{part, kindAt, verticesAt}
+use Rattle.stepping.specs.Steps.{left-ready}
+use Rattle.stepping.specs.Given.{part, kindAt, verticesAt}
 use Rattle.zones.specs.Kinds.{leaveMoves}
 use Rattle.motion.specs.World.{worldIn, madeAll}
 use Rattle.spec.specs.State.{arrangementOf, across}
@@ -9,10 +9,10 @@ use Prim.Native.Nat.{ℕ}
 use mathlib.Core.List.{List}
 use mathlib.Core.Path.{sym, ap, _∙_}
 use borrow.Author.Needs.{needs}
-use Rattle.resolve.proofs.step.leave_at.Statement.{statement}
-use Rattle.resolve.proofs.step.leave_at.Tie as tie
-use Rattle.resolve.proofs.step.leave_at.Reads as reads
-use Rattle.resolve.proofs.step.leave_at.Lts as lts
+use Rattle.stepping.proofs.step.leave_at.Statement.{statement}
+use Rattle.stepping.proofs.step.leave_at.Tie as tie
+use Rattle.stepping.proofs.step.leave_at.Reads as reads
+use Rattle.stepping.proofs.step.leave_at.Lts as lts
 use Rattle.motion.proofs.robot_in.Reads as robot-in-reads
 use Rattle.zones.proofs.leave.Reads as leave-reads
 

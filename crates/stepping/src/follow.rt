@@ -5,8 +5,8 @@ ghost use lib.ListN.{length, getD};
 ghost use Rattle.spec.specs.State.{arrangementOf};
 ghost use Rattle.theory.specs.Zones.Crossing.{extraOf};
 ghost use Rattle.motion.specs.Tables.{onVertices};
-ghost use Rattle.resolve.specs.Held.{heldPart};
-ghost use Rattle.resolve.specs.Given.{HasZone, kindAt, verticesAt};
+ghost use Rattle.stepping.specs.Held.{heldPart};
+ghost use Rattle.stepping.specs.Given.{HasZone, kindAt, verticesAt};
 
 // The bytes of a follow list are copied from the payload in the file.
 pub fn copy_list(file: &[u8], from: usize, list: &mut [u8])

@@ -1,4 +1,4 @@
-use Rattle.resolve.specs.Steps.{entered-ready}
+use Rattle.stepping.specs.Steps.{entered-ready}
 use Rattle.clique.specs.Entering.{numbered-none}
 use Rattle.motion.specs.World.{worldIn}
 use Rattle.spec.specs.State.{arrangementOf}
@@ -6,11 +6,11 @@ use Rattle.motion.specs.Tables.{tabled}
 use mathlib.Core.List.{[]}
 use mathlib.Core.Path.{sym}
 use borrow.Author.Needs.{needs}
-use Rattle.resolve.proofs.step.enter_room.Statement.{statement}
-use Rattle.resolve.proofs.step.enter_room.Tie as tie
-use Rattle.resolve.proofs.step.enter_room.Reads as reads
-use Rattle.resolve.proofs.step.enter_room.Lts as lts
-use Rattle.resolve.proofs.step.is_ready.Reads as is-ready-reads
+use Rattle.stepping.proofs.step.enter_room.Statement.{statement}
+use Rattle.stepping.proofs.step.enter_room.Tie as tie
+use Rattle.stepping.proofs.step.enter_room.Reads as reads
+use Rattle.stepping.proofs.step.enter_room.Lts as lts
+use Rattle.stepping.proofs.step.is_ready.Reads as is-ready-reads
 use Rattle.zones.proofs.enter.Reads as enter-reads
 
 -- src/step.rt:95:8

@@ -1,8 +1,8 @@
 use borrow.Author.Needs.{needs}
 use native.Mathlib.Omega.{arith}
-use Rattle.resolve.specs.Held.{copied-all}
-use Rattle.resolve.proofs.follow.copy_list.Statement.{statement}
-use Rattle.resolve.proofs.follow.copy_list.Tie as tie
+use Rattle.stepping.specs.Held.{copied-all}
+use Rattle.stepping.proofs.follow.copy_list.Statement.{statement}
+use Rattle.stepping.proofs.follow.copy_list.Tie as tie
 use Rattle.wire.proofs.payload_part.Reads as payload-part-reads
 
 payload-part-requires : tie.Need-payload-part-requires

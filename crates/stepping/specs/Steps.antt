@@ -29,10 +29,10 @@ use Rattle.motion.specs.Reading.{robot-here, empty-here}
 use Rattle.clique.specs.Entering.{Numbered, numbered-none, entered-numbered}
 use Rattle.zones.specs.Kinds.{leaveMoves, enterMoves, clique-can-enter}
 use Rattle.zones.specs.Ready.{leave-ready, enter-ready}
-use Rattle.resolve.specs.Tests.{tests-passed, stepTests, stepMoves, Passes}
-use Rattle.resolve.specs.Given.{Started, Stepping, HasVertex, kindAt, verticesAt, has-vertex, kind-is, vertices-is, place-is}
-use Rattle.resolve.specs.Held.{heldPart, held-same, extra-most}
-use Rattle.resolve.specs.Walk.{entered-kept, step-made, Walking, walk-more, walk-passes}
+use Rattle.stepping.specs.Tests.{tests-passed, stepTests, stepMoves, Passes}
+use Rattle.stepping.specs.Given.{Started, Stepping, HasVertex, kindAt, verticesAt, has-vertex, kind-is, vertices-is, place-is}
+use Rattle.stepping.specs.Held.{heldPart, held-same, extra-most}
+use Rattle.stepping.specs.Walk.{entered-kept, step-made, Walking, walk-more, walk-passes}
 
 -- a byte of the payload that the code read in the file
 pub byte-is : (f : List ℕ) (len o x : ℕ) → len ≤ length f / 512 * 504 → o < len → x ≡ getD f (wire.placeOf o) 0 → x ≡ getD (take len (payload f)) o 0

@@ -1,5 +1,5 @@
-use Rattle.resolve.specs.Held.{heldPart}
-use Rattle.resolve.specs.Given.{part, kindAt, verticesAt}
+use Rattle.stepping.specs.Held.{heldPart}
+use Rattle.stepping.specs.Given.{part, kindAt, verticesAt}
 use Rattle.comparing.specs.Comparing.{cells-length}
 use Rattle.zones.specs.Kinds.{enterMoves}
 use Rattle.motion.specs.World.{worldIn, madeAll}
@@ -11,12 +11,12 @@ use Prim.Native.Nat.{ℕ, _+_}
 use mathlib.Core.List.{List, []}
 use mathlib.Core.Path.{_≡_, sym, ap, _∙_}
 use borrow.Author.Needs.{needs}
-use Rattle.resolve.proofs.step.enter_at.Statement.{statement}
-use Rattle.resolve.proofs.step.enter_at.Tie as tie
-use Rattle.resolve.proofs.step.enter_at.Reads as reads
-use Rattle.resolve.proofs.step.enter_at.Lts as lts
-use Rattle.resolve.proofs.step.enter_in.Reads as enter-in-reads
-use Rattle.resolve.proofs.step.enter_room.Reads as enter-room-reads
+use Rattle.stepping.proofs.step.enter_at.Statement.{statement}
+use Rattle.stepping.proofs.step.enter_at.Tie as tie
+use Rattle.stepping.proofs.step.enter_at.Reads as reads
+use Rattle.stepping.proofs.step.enter_at.Lts as lts
+use Rattle.stepping.proofs.step.enter_in.Reads as enter-in-reads
+use Rattle.stepping.proofs.step.enter_room.Reads as enter-room-reads
 
 -- src/step.rt:152:13
 element-copy-out-z : tie.Need-element-copy-out-z

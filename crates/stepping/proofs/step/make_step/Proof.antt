@@ -1,16 +1,16 @@
-use Rattle.resolve.specs.Steps.{stepping-room, stepping-from, stepping-to, stepping-leaves, stepping-proper, stepping-short, stepping-named, stepping-room-proper, stepping-extra, stepping-made}
-use Rattle.resolve.specs.Given.{Stepping}
+use Rattle.stepping.specs.Steps.{stepping-room, stepping-from, stepping-to, stepping-leaves, stepping-proper, stepping-short, stepping-named, stepping-room-proper, stepping-extra, stepping-made}
+use Rattle.stepping.specs.Given.{Stepping}
 use Rattle.motion.specs.World.{worldIn}
 use Rattle.motion.specs.Tables.{tabled}
 use mathlib.Core.Path.{refl}
 use borrow.Author.Needs.{needs}
-use Rattle.resolve.proofs.step.make_step.Statement.{statement}
-use Rattle.resolve.proofs.step.make_step.Tie as tie
-use Rattle.resolve.proofs.step.make_step.Reads as reads
-use Rattle.resolve.proofs.step.make_step.Lts as lts
+use Rattle.stepping.proofs.step.make_step.Statement.{statement}
+use Rattle.stepping.proofs.step.make_step.Tie as tie
+use Rattle.stepping.proofs.step.make_step.Reads as reads
+use Rattle.stepping.proofs.step.make_step.Lts as lts
 use Rattle.motion.proofs.make.Reads as make-reads
-use Rattle.resolve.proofs.step.enter_at.Reads as enter-at-reads
-use Rattle.resolve.proofs.step.leave_at.Reads as leave-at-reads
+use Rattle.stepping.proofs.step.enter_at.Reads as enter-at-reads
+use Rattle.stepping.proofs.step.leave_at.Reads as leave-at-reads
 
 -- src/step.rt:210:16
 add-from : tie.Need-add-from

@@ -1,12 +1,12 @@
 use Rattle.motion.specs.Tables.{tabled, onVertices}
 use mathlib.Core.Path.{sym, _∙_}
-use Rattle.resolve.specs.Held.{extra-filled, extra-none}
+use Rattle.stepping.specs.Held.{extra-filled, extra-none}
 use borrow.Author.Needs.{needs}
 use borrow.Author.Needs.{needs}
-use Rattle.resolve.proofs.follow.list_length.Statement.{statement}
-use Rattle.resolve.proofs.follow.list_length.Tie as tie
-use Rattle.resolve.proofs.follow.list_length.Reads as reads
-use Rattle.resolve.proofs.follow.list_length.Lts as lts
+use Rattle.stepping.proofs.follow.list_length.Statement.{statement}
+use Rattle.stepping.proofs.follow.list_length.Tie as tie
+use Rattle.stepping.proofs.follow.list_length.Reads as reads
+use Rattle.stepping.proofs.follow.list_length.Lts as lts
 use Rattle.zones.proofs.fills.Reads as fills-reads
 
 -- src/follow.rt:106:8
