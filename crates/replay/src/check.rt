@@ -8,13 +8,13 @@ ghost use Rattle.spec.specs.Arrangement.{mv};
 ghost use Rattle.spec.specs.Run.{onGoals, checkedMoves};
 ghost use Rattle.adjacency.specs.Rows.{Shows, bitAt};
 ghost use Rattle.wire.specs.Payload.{payload};
-ghost use Rattle.motion.specs.States.{movedBy};
 ghost use Rattle.motion.specs.Tables.{tabled};
 ghost use Rattle.replay.specs.Moves.{moveTests};
 ghost use Rattle.replay.specs.Check.{faultAt, NumbersOf, offGoal, moveListOf, ReplayOf};
 use crate::Fault;
 use crate::MoveList;
 use numbering::Robot;
+use numbering::Vertex;
 
 // Is there an edge between two vertices?
 fn edge_between(rows: &[[u64; 2]; 128], u: u8, v: u8) -> bool
@@ -55,16 +55,6 @@ fn fault_of(robots: &[u8], rows: &[[u64; 2]; 128], n: usize, k: usize, r: u8, u:
         return Fault::Standing;
     }
     Fault::Nothing
-}
-
-// Robot r goes from u to v, in the lent tables of a state.
-fn make_move(robots: &mut [u8], vertices: &mut [u8], r: u8, u: u8, v: u8)
-    requires { ⌜ (r < length (now vertices)) × (u < length (now robots)) × (v < length (now robots)) ⌝ }
-    ensures { λ q. ⌜ tabled (now (robots .exit)) (now (vertices .exit)) ≡ movedBy (tabled (now (robots .entry)) (now (vertices .entry))) (mv r u v) ⌝ }
-{
-    robots[u as usize] = 255;
-    robots[v as usize] = r;
-    vertices[r as usize] = v;
 }
 
 // The lowest robot that is off its goal; k where there is none.
@@ -117,7 +107,13 @@ fn replay_moves(
             }
             Fault::Nothing => {}
         }
-        make_move(robots, vertices, x.first, x.second, x.third);
+        motion::shift(
+            robots,
+            vertices,
+            Robot(x.first),
+            Vertex(x.second),
+            Vertex(x.third),
+        );
         at = wire::place_after(at);
         i += 1;
     }

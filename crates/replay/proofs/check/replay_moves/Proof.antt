@@ -101,10 +101,8 @@ returns-4 c =
 enum-told-4 : tie.Need-enum-told-4 Inv-loop μ-loop
 enum-told-4 c = search needs
 
-make-move-requires : tie.Need-make-move-requires Inv-loop μ-loop
-make-move-requires c κs =
-    let w = rw (c .before .before .enum-told4 .given .1) at (c .before .before .before .before .fault-of .ensures .1) in
-    (omega (arith, w .0, c .before .before .before .before .before .before .before .before .before .before .before .before .before .pre .1 .1), omega (arith, w .1, c .before .before .before .before .before .before .before .before .before .before .before .before .before .pre .1 .0), omega (arith, w .2, c .before .before .before .before .before .before .before .before .before .before .before .before .before .pre .1 .0))
+shift-requires : tie.Need-shift-requires Inv-loop μ-loop
+shift-requires c κs = search needs
 
 place-after-requires : tie.Need-place-after-requires Inv-loop μ-loop
 place-after-requires c κs = omega (arith, c .before .before .before .before .before .before .before .before .before .before .before .before .before .before .loop .inv .3, c .before .before .before .before .before .before .before .before .before .before .before .before .before .before .before .before .before .before .pre .0 .1)
@@ -125,7 +123,7 @@ loop-again c = (
       replay-next m _ _ _ _ (c .before .before .before .before .before .before .before .before .before .before .before .before .before .before .before .before .before .before .before .pre .0 .0) _ _ _ (c .before .before .before .before .before .before .before .before .before .before .before .before .before .before .before .loop .inv .4 m e h) _ _ (search needs) (search needs)
       (three-move (c .before .before .before .before .before .before .before .before .before .before .before .before .before .before .before .before .before .before .before .args .file .now) (c .before .before .before .before .before .before .before .before .before .before .before .before .before .before .before .loop .i) (c .before .before .before .before .before .before .before .before .before .before .before .before .three-from .result) (c .before .before .before .before .before .before .before .before .before .before .before .before .three-from .ensures (2 + c .before .before .before .before .before .before .before .before .before .before .before .before .before .before .before .loop .i * 3) (c .before .before .before .before .before .before .before .before .before .before .before .before .before .before .before .loop .inv .3)))
       (sym (ap (faultAt _) (c .before .before .before .before .before .before .before .before .enum-told4 .given .1)) ∙ c .before .before .before .before .before .before .before .before .before .before .fault-of .ensures .0 m e h _ _)
-      (c .before .before .before .before .before .make-move .ensures),
+      (c .before .before .before .before .before .shift .ensures),
 )
 
 same-length-9 : tie.Need-same-length-9 Inv-loop μ-loop
@@ -164,7 +162,7 @@ replay-moves-spec =
     same-length-8
     returns-4
     enum-told-4
-    make-move-requires
+    shift-requires
     place-after-requires
     add-i
     loop-less
