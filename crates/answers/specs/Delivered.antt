@@ -11,7 +11,7 @@ use Rattle.spec.specs.Outcome.{ok, refuse, _>>_, check}
 use Rattle.spec.specs.Wire.{fileOf}
 use Rattle.spec.specs.Services.{Answer, fits, answerOf}
 use Rattle.wire.specs.Payload.{payload, payload-length, lt-or-ge}
-use Rattle.wire.specs.Laid.{laidAll, laid-length, laid-count-last, laid-payload}
+use Rattle.writer.specs.Laid.{laidAll, laid-length, laid-count-last, laid-payload}
 use Rattle.answers.specs.Sealed.{file-up, up-length}
 use Rattle.answers.specs.declared.Delivered.{Delivered}
 

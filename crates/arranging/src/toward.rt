@@ -7,17 +7,17 @@ ghost use Rattle.spec.specs.State.{across, cellOf};
 ghost use Rattle.spec.specs.Terms.{Distinct};
 ghost use Rattle.motion.specs.World.{worldIn, madeAll};
 ghost use Rattle.arranging.specs.Toward.{offNext};
-ghost use Rattle.arranging.specs.Table.{Tabled};
+ghost use Rattle.tabling.specs.Table.{Tabled};
 use crate::opening::open_target;
-use crate::placing::first_empty;
-use crate::table::as_byte;
-use crate::table::table_cells;
-use crate::table::table_move;
-use motion::cell_at;
-use motion::cell_of;
-use motion::go;
+use cells::cell_at;
+use cells::cell_of;
+use cells::go;
 use motion::least;
 use numbering::Robot;
+use tabling::placing::first_empty;
+use tabling::table::as_byte;
+use tabling::table::table_cells;
+use tabling::table::table_move;
 
 // The robot of cell y where it is not what stands there; 255 where it is, or where there is none.
 fn robot_off(x: u8, y: u8) -> u8

@@ -9,14 +9,13 @@ ghost use Rattle.motion.specs.Tables.{onVertices};
 ghost use Rattle.motion.specs.World.{worldIn, madeAll};
 ghost use Rattle.motion.specs.Coupling.{Listed};
 ghost use Rattle.circle.specs.Pushes.{pushed};
-ghost use Rattle.circle.specs.Steps.{Alone};
 use crate::places::beside;
 use crate::places::distance;
 use crate::places::next;
+use cells::place_of;
+use cells::vertex_at;
 use motion::make;
-use motion::place_of;
 use motion::robot_on;
-use motion::vertex_at;
 use numbering::Robot;
 
 // "in the run of taken points forward from it, the foremost cart of the run moves first, each one place, the pushed cart
@@ -64,25 +63,6 @@ pub fn push(
         to = from;
     }
     count
-}
-
-// The robot on place p, with nobody on the place after it, is pushed: it goes one place forward.
-pub fn step(
-    robots: &mut [u8],
-    vertices: &mut [u8],
-    count: usize,
-    zone: &[u8],
-    p: usize,
-    out: &mut [u8],
-) -> usize
-    requires { ⌜ p < length (now zone) ⌝ }
-    requires { ⌜ Alone (arrangementOf (onVertices (now robots)) (now zone)) p ⌝ }
-    ensures { λ n. ⌜ worldIn (now (robots .exit)) (now (vertices .exit)) n (now (out .exit)) ≡ madeAll (worldIn (now (robots .entry)) (now (vertices .entry)) count (now (out .entry))) (across (now (zone .entry)) (pushed (arrangementOf (onVertices (now (robots .entry))) (now (zone .entry))) p)) ⌝ }
-{
-    let v = vertex_at(zone, p);
-    let w = vertex_at(zone, next(zone.len(), p));
-    let r = robot_on(robots, v);
-    make(robots, vertices, count, r, v, w, out)
 }
 
 // The robot on place p is pushed n times.

@@ -4,8 +4,8 @@ ghost use lib.ListN.{getD};
 ghost use Rattle.spec.specs.State.{arrangementOf, robotOn};
 ghost use Rattle.motion.specs.Tables.{onVertices};
 ghost use Rattle.circle.specs.Reading.{vacant};
+use cells::vertex_at;
 use motion::robot_on;
-use motion::vertex_at;
 use numbering::Robot;
 
 // The robot on place i.

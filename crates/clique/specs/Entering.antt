@@ -22,7 +22,7 @@ use Rattle.theory.specs.Zones.Arrangements.{cell-inside}
 use Rattle.theory.specs.Zones.Robots.{same-robots}
 use Rattle.theory.specs.Zones.Crossing.{extraOf}
 use Rattle.motion.specs.Across.{arrangement-length, arrangement-at}
-use Rattle.motion.specs.Reading.{eqb-suc, cell-under}
+use Rattle.cells.specs.Reading.{eqb-suc, cell-under}
 
 -- a list mapped, from place k on
 pub map-next : (f : ℕ → ℕ) (l : List ℕ) (k x : ℕ) → k < length l → x ≡ f (getD l k 0) → drop k (map f l) ≡ x ∷ drop (k + 1) (map f l)

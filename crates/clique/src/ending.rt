@@ -1,6 +1,6 @@
 // Bringing a clique to the goals.
 ghost use mathlib.Core.Path.{_≡_};
-ghost use Prim.Native.Nat.{_≤_, _*_};
+ghost use Prim.Native.Nat.{_≤_};
 ghost use lib.ListN.{length};
 ghost use Rattle.spec.specs.Clique.{cliqueCanEnd, cliqueEnd};
 ghost use Rattle.spec.specs.State.{arrangementOf, across};
@@ -8,10 +8,10 @@ ghost use Rattle.spec.specs.Terms.{Distinct};
 ghost use Rattle.motion.specs.Tables.{onVertices};
 ghost use Rattle.motion.specs.World.{worldIn, madeAll};
 use arranging::toward::go_toward;
+use cells::cells_of;
+use cells::is_full;
 use comparing::same_cells;
 use comparing::same_robots;
-use motion::cells_of;
-use motion::is_full;
 
 // Are the goals in the configuration of the clique? The two arrangements are worked out in lent cells.
 fn can_end_in(robots: &[u8], zone: &[u8], goals: &[u8], cells: &mut [u8], goal: &mut [u8]) -> bool

@@ -13,17 +13,17 @@ ghost use Rattle.spec.specs.Terms.{Distinct};
 ghost use Rattle.theory.specs.Zones.Crossing.{extraOf};
 ghost use Rattle.motion.specs.Tables.{onVertices};
 ghost use Rattle.motion.specs.World.{worldIn, madeAll};
-ghost use Rattle.motion.specs.Cells.{overlaid};
+ghost use Rattle.cells.specs.Cells.{overlaid};
 ghost use Rattle.clique.specs.Entering.{Numbered};
-use crate::counting::last_free;
-use crate::leaving::make_room;
 use arranging::toward::go_toward;
+use cells::cell_of;
+use cells::cells_of;
 use comparing::same_robots;
-use motion::cell_of;
-use motion::cells_of;
 use motion::least;
 use motion::put_cell;
 use numbering::Robot;
+use vacating::last_free;
+use vacating::leaving::make_room;
 
 // Is every name of a follow list but the one at place j a robot's?
 fn names_robots(list: &[u8], j: usize) -> bool

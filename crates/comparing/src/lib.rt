@@ -1,13 +1,13 @@
 // Two arrangements in cells, compared.
 ghost use mathlib.Core.Path.{_≡_};
-ghost use Prim.Native.Nat.{_<_};
 ghost use lib.ListN.{length};
 ghost use Rattle.spec.specs.Outcome.{sameList};
 ghost use Rattle.spec.specs.Arrangement.{order};
 ghost use Rattle.spec.specs.Clique.{sameRobots};
 ghost use Rattle.comparing.specs.Marks.{marked};
 ghost use Rattle.comparing.specs.Comparing.{among, noMarks};
-use motion::cell_at;
+use cells::cell_at;
+use cells::index_of;
 use motion::put_cell;
 
 // The number of robots in cells.
@@ -24,13 +24,6 @@ fn count_cells(cells: &[u8]) -> usize
         }
     }
     n
-}
-
-// A cell as its index in a table of 256.
-pub fn index_of(x: u8) -> usize
-    ensures { λ i. ⌜ (i ≡ x) × (x < 256) ⌝ }
-{
-    x as usize
 }
 
 // The cells of an arrangement are marked in a table.

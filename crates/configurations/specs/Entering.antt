@@ -15,7 +15,7 @@ use Rattle.spec.specs.Ring.{wrap}
 use Rattle.spec.specs.ZoneKind.{byKind}
 use Rattle.theory.specs.Zones.Hall.Order.{IsHall}
 use Rattle.theory.specs.Zones.Kinds.{KindOf, clique, ring, hall, kind?, as-hall}
-use Rattle.lineup.specs.Reach.{member-index}
+use Rattle.reaching.specs.Reach.{member-index}
 use Rattle.orders.specs.Orders.{without, putIn, entryIn, turnedBy, ringEntered, cliqueEntered, entered}
 use Rattle.orders.specs.Orders.{sameMembers, listMet, cliqueEnters, ringEnters, hallEnters, enterTest}
 use Rattle.orders.specs.Lengths.{without-length, put-length}

@@ -7,16 +7,16 @@ ghost use lib.Dec.{eqb};
 ghost use Rattle.spec.specs.Ring.{wrap};
 ghost use Rattle.orders.specs.Orders.{entryIn, ringEntered, entered};
 ghost use Rattle.orders.specs.Orders.{listMet, cliqueEnters, ringEnters, hallEnters, enterTest};
-ghost use Rattle.stepping.specs.Held.{heldPart};
+ghost use Rattle.walking.specs.Held.{heldPart};
 ghost use Rattle.rosters.specs.Lists.{Rewritten};
 ghost use Rattle.configurations.specs.Entering.{EntryFound, entryOn};
-use lineup::reach::has_room;
+use reaching::reach::has_room;
 use rosters::finding::index_in;
 use rosters::lists::insert;
 use rosters::lists::remove;
 use rosters::lists::turn_first;
 use rosters::members::same_members;
-use stepping::follow::copy_list;
+use walking::copy_list;
 
 // Where a robot comes in that has the named one behind it; past the end where that one is not inside.
 fn entry_index(part: &[u8], n: usize, behind: u8) -> usize

@@ -16,14 +16,14 @@ use Rattle.spec.specs.ZoneKind.{behindOf}
 use Rattle.spec.specs.State.{State, Step, moved, arrangementOf, stepOf, drawnSteps, stepBytes}
 use Rattle.spec.specs.Terms.{Stands}
 use Rattle.theory.specs.Maps.Layout.{Accepted}
-use Rattle.layout.specs.declared.MapFault.{MapFault}
+use Rattle.zoning.specs.declared.MapFault.{MapFault}
 use Rattle.layout.specs.declared.MapRead.{MapRead}
 use Rattle.layout.specs.Map.{MapHeld}
 use Rattle.layout.specs.Tables.{entryOf, entry-is}
-use Rattle.wire.specs.Laid.{laidAll, laid-length, laid-append}
+use Rattle.writer.specs.Laid.{laidAll, laid-length, laid-append}
 use Rattle.motion.specs.Tables.{tabled, onVertices}
 use Rattle.drawing.specs.declared.Drawn.{Drawn}
-use Rattle.drawing.specs.Follow.{followed, stepFrom, follow-length}
+use Rattle.noting.specs.Follow.{followed, stepFrom, follow-length}
 use Rattle.replay.specs.Moves.{moveBy, movesBy, moves-next, moves-done}
 
 -- the bytes of one step

@@ -1,20 +1,18 @@
 // The plan drawn from a checked list: a step for each move between zones.
 ghost use mathlib.Core.Path.{_≡_};
 ghost use Prim.Native.Nat.{ℕ, _+_, _≤_, _<_};
-ghost use lib.ListN.{length};
 ghost use Rattle.spec.specs.Layout.{Map};
 ghost use Rattle.spec.specs.Arrangement.{mv};
 ghost use Rattle.theory.specs.Maps.Layout.{Accepted};
-ghost use Rattle.layout.specs.declared.MapFault.{MapFault};
+ghost use Rattle.zoning.specs.declared.MapFault.{MapFault};
 ghost use Rattle.layout.specs.Map.{MapHeld};
-ghost use Rattle.wire.specs.Laid.{laidAll};
 ghost use Rattle.motion.specs.States.{stateOf, movedBy};
 ghost use Rattle.motion.specs.Tables.{tabled, onVertices};
 ghost use Rattle.replay.specs.Moves.{fileBytes, threeMove};
 ghost use Rattle.drawing.specs.Drawn.{lentMap, MoveDrawn, partOf, EndsOn, AllDrawn};
-ghost use Rattle.drawing.specs.Follow.{seated, followed, stepFrom};
 use layout::MapRead;
 use motion::State;
+use noting::write_step;
 use numbering::Robot;
 use numbering::Vertex;
 use wire::Three;
@@ -23,54 +21,6 @@ use wire::Three;
 pub struct Drawn {
     pub steps: usize,
     pub bytes: usize,
-}
-
-// Who stands on place i, a vertex v, once robot r has come in at place j.
-fn robot_after(robots: &[u8], v: u8, i: usize, j: usize, r: u8) -> usize
-    ensures { λ x. ⌜ (x ≡ seated (onVertices (now (robots .entry))) v i j r) × (x < 256) ⌝ }
-{
-    if i == j {
-        return r as usize;
-    }
-    motion::robot_in(robots, Vertex(v)) as usize
-}
-
-// Lays the follow list of robot r's step into place j of a zone from payload offset `off` on.
-fn write_list(robots: &[u8], zone: &[u8], j: usize, r: u8, off: usize, out: &mut [u8])
-    requires { ⌜ (length (now zone) ≤ 255) × (off < 4294967296) ⌝ }
-    ensures { λ q. ⌜ now (out .exit) ≡ laidAll (now (out .entry)) off (followed (onVertices (now (robots .entry))) (now (zone .entry)) j r) ⌝ }
-{
-    let mut i: usize = 0;
-    while i < zone.len() {
-        let x = robot_after(robots, zone[i], i, j, r);
-        wire::put_byte(out, off + i, x as u8);
-        i += 1;
-    }
-}
-
-// Lays a step from payload offset `off` on, with the follow list where it fills a clique; gives the offset after it.
-fn write_step(
-    robots: &[u8],
-    zone: &[u8],
-    j: usize,
-    r: u8,
-    u: u8,
-    v: u8,
-    behind: u8,
-    filled: bool,
-    off: usize,
-    out: &mut [u8],
-) -> usize
-    requires { ⌜ (length (now zone) ≤ 128) × (off < 4294967040) ⌝ }
-    ensures { λ q. ⌜ (q ≡ off + length (stepFrom (onVertices (now (robots .entry))) (now (zone .entry)) j r u v behind filled)) × (now (out .exit) ≡ laidAll (now (out .entry)) off (stepFrom (onVertices (now (robots .entry))) (now (zone .entry)) j r u v behind filled)) ⌝ }
-{
-    wire::put_three(out, off, r, u, v);
-    wire::put_byte(out, off + 3, behind);
-    if filled {
-        write_list(robots, zone, j, r, off + 4, out);
-        return off + 4 + zone.len();
-    }
-    off + 4
 }
 
 // The part of a listing from a to before e; nothing where the listing ends before.
@@ -123,8 +73,8 @@ fn draw_move(
     if part.len() != n {
         return d;
     }
-    let behind = zones::behind_of(kind, robots, part, j);
-    let filled = zones::fills(kind, robots, part);
+    let behind = leeway::behind_of(kind, robots, part, j);
+    let filled = leeway::fills(kind, robots, part);
     let bytes = write_step(robots, part, j, r, u, v, behind, filled, d.bytes, out);
     Drawn {
         steps: d.steps + 1,

@@ -7,10 +7,10 @@ ghost use Rattle.spec.specs.Services.{judging, resolving, drawing, rounds};
 ghost use Rattle.opening.specs.Opened.{MapFiled};
 ghost use Rattle.galzpuna.specs.Services.{answered, refusal};
 use crate::Answer;
-use opening::files::judge_files;
 use opening::files::open_list;
-use opening::files::resolve_files;
-use opening::refusals::of_map_file;
+use planning::plans::judge_files;
+use planning::plans::resolve_files;
+use refusals::of_map_file;
 
 // Gives a refusal, and leaves the whole buffer zero.
 fn refuse(out: &mut [u8], number: u32, place: usize) -> Answer
@@ -43,7 +43,7 @@ fn draw_checked(map: &[u8], len: usize, placing: &[u8], moves: &[u8], out: &mut 
     let listed = m.listed;
     let s = motion::standing(starts, k);
     let d = drawing::draw_moves(moves, count, m, listed, s, out);
-    wire::put_word(out, 0, d.steps);
+    writer::put_word(out, 0, d.steps);
     let w = answers::deliver(out, 3, 64, d.bytes);
     Answer {
         number: w.number,
@@ -78,7 +78,7 @@ fn rounds_checked(map: &[u8], len: usize, placing: &[u8], moves: &[u8], out: &mu
     }
     let count = o.count;
     timing::write_rounds(moves, count, out);
-    wire::put_word(out, 0, count);
+    writer::put_word(out, 0, count);
     let w = answers::deliver(out, 5, 128, 2 + count * 2);
     Answer {
         number: w.number,
@@ -142,7 +142,7 @@ pub extern "C" fn galzpuna_resolve(
         return refuse(out, number, f.place);
     }
     let count = o.count;
-    wire::put_word(out, 0, count);
+    writer::put_word(out, 0, count);
     let w = answers::deliver(out, 4, 128, 2 + count * 3);
     Answer {
         number: w.number,

@@ -6,8 +6,8 @@ ghost use Rattle.spec.specs.State.{across};
 ghost use Rattle.spec.specs.Hall.{down, up, lowering, raising, hallMoves};
 ghost use Rattle.motion.specs.World.{worldIn, madeAll};
 ghost use Rattle.hall.specs.Trips.{tripsOf};
+use cells::vertex_at;
 use motion::make;
-use motion::vertex_at;
 use numbering::Robot;
 
 // Robot r goes down from a place to a lower one.

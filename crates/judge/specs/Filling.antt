@@ -19,15 +19,15 @@ use Rattle.motion.specs.declared.State as code
 use Rattle.motion.specs.States.{stateOf}
 use Rattle.motion.specs.Tables.{tabled, onVertices, arrangement-alone}
 use Rattle.spec.specs.Run.{goalsFrom}
-use Rattle.stepping.specs.Alone.{goals-alone}
+use Rattle.walking.specs.Alone.{goals-alone}
 use Rattle.motion.specs.Across.{arrangement-length}
-use Rattle.zones.specs.Tables.{verticesIn}
+use Rattle.walking.specs.Tables.{verticesIn}
 use Rattle.lineup.specs.Line.{Lined}
 use Rattle.orders.specs.Orders.{endTest}
 use Rattle.orders.specs.Packed.{holds-order}
-use Rattle.stepping.specs.Given.{Given, HasZone, part}
+use Rattle.walking.specs.Given.{Given, HasZone, part}
 use Rattle.rosters.specs.Lists.{Rewritten}
-use Rattle.judge.specs.Held.{listIn, Held, Changed, changed-part, size-is, list-here, list-away, still-few}
+use Rattle.testing.specs.Held.{listIn, Held, Changed, changed-part, size-is, list-here, list-away, still-few}
 use Rattle.rosters.specs.Lists.{rest-is}
 use Rattle.judge.specs.Making.{Listed}
 

@@ -18,19 +18,20 @@ use Rattle.theory.specs.Plans.Step.{proper}
 use Rattle.wire.specs.Payload.{payload, held-length}
 use Rattle.wire.specs.Payload as wire
 use Rattle.motion.specs.World.{World, madeAll, state-is}
-use Rattle.zones.specs.Tables.{verticesIn}
+use Rattle.walking.specs.Tables.{verticesIn}
 use Rattle.orders.specs.Orders.{endTest}
 use Rattle.orders.specs.Tests.{end-is}
-use Rattle.judge.specs.declared.PlanFault.{PlanFault}
-use Rattle.judge.specs.declared.PlanFault.the-variants as plan
-use Rattle.judge.specs.declared.StepTest.{StepTest}
-use Rattle.judge.specs.declared.StepTest.the-variants as step
-use Rattle.judge.specs.Fault.{testOf, test-passed, refusalOf, faultOf, fault-then}
-use Rattle.stepping.specs.Given.{Given}
-use Rattle.stepping.specs.Tests.{stepTests, stepMoves, step-tests, tests-passed}
-use Rattle.stepping.specs.Walk.{Walking, after, walk-start, walk-left, walk-more, walk-end}
-use Rattle.stepping.specs.Left.{fresh, resolvedOn, on-none, on-steps, on-refused, on-surplus, on-goals}
-use Rattle.judge.specs.Held.{listIn, Held, size-is}
+use Rattle.testing.specs.declared.PlanFault.{PlanFault}
+use Rattle.testing.specs.declared.PlanFault.the-variants as plan
+use Rattle.testing.specs.declared.StepTest.{StepTest}
+use Rattle.testing.specs.declared.StepTest.the-variants as step
+use Rattle.testing.specs.Fault.{refusalOf, faultOf, fault-then}
+use Rattle.testing.specs.Test.{testOf, test-passed}
+use Rattle.walking.specs.Given.{Given}
+use Rattle.walking.specs.Tests.{stepTests, stepMoves, step-tests, tests-passed}
+use Rattle.walking.specs.Walk.{Walking, after, walk-start, walk-left, walk-more, walk-end}
+use Rattle.walking.specs.Left.{fresh, resolvedOn, on-none, on-steps, on-refused, on-surplus, on-goals}
+use Rattle.testing.specs.Held.{listIn, Held, size-is}
 use Rattle.judge.specs.Making.{Marching, Marched}
 
 -- how far a walk of n steps from the state s₀ has come on the lists

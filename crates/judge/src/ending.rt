@@ -11,12 +11,12 @@ ghost use Rattle.spec.specs.Terms.{zoneCount};
 ghost use Rattle.theory.specs.Maps.Consistent.{Consistent};
 ghost use Rattle.motion.specs.States.{stateOf};
 ghost use Rattle.motion.specs.Tables.{onVertices};
-ghost use Rattle.zones.specs.Tables.{verticesIn};
+ghost use Rattle.walking.specs.Tables.{verticesIn};
 ghost use Rattle.orders.specs.Orders.{endTest};
-ghost use Rattle.stepping.specs.Given.{Given, HasZone};
+ghost use Rattle.walking.specs.Given.{Given, HasZone};
 ghost use Rattle.judge.specs.Endings.{offZone};
-ghost use Rattle.judge.specs.Held.{listIn, Held};
-ghost use Rattle.judge.specs.Steps.{HasList};
+ghost use Rattle.testing.specs.Held.{listIn, Held};
+ghost use Rattle.testing.specs.Steps.{HasList};
 ghost use Rattle.judge.specs.Making.{Listed};
 use lineup::line::line_up;
 use motion::State;
@@ -87,7 +87,7 @@ fn ends_zone<'a>(
     let mut robots = [0u8; 128];
     let mut places = [0u8; 128];
     let n = line_up(goals, &listed[a..e], &mut robots, &mut places);
-    configurations::goals::can_end(kind[z], &cells[a..], count, m, &mut robots[..n])
+    exits::goals::can_end(kind[z], &cells[a..], count, m, &mut robots[..n])
 }
 
 // The lowest zone that can't be brought to its goals; the number of zones where there is none.

@@ -6,12 +6,12 @@ ghost use Rattle.spec.specs.Layout.{Map, Placing};
 ghost use Rattle.spec.specs.Terms.{zoneCount};
 ghost use Rattle.theory.specs.Maps.Placing.{Placed};
 ghost use Rattle.wire.specs.Payload.{payload};
-ghost use Rattle.stepping.specs.Given.{Given, Placement};
+ghost use Rattle.walking.specs.Given.{Given, Placement};
 ghost use Rattle.judge.specs.Judging.{JudgedTo};
-use crate::PlanFault;
 use crate::ending::fill_lists;
 use crate::ending::off_zone;
 use crate::walk::walk;
+use testing::PlanFault;
 
 // Judges the plan whose payload, of `len` bytes, stands in a checked file, on lists that are lent: cells as many as listed vertices, counts all zero.
 fn judge_in<'a>(

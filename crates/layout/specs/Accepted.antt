@@ -13,7 +13,7 @@ use Rattle.theory.specs.Maps.Layout as theory
 use Rattle.adjacency.specs.Rows.{bitAt, shows-joined}
 use Rattle.kinds.specs.Shape.{part-length, part-at}
 use Rattle.layout.specs.declared.MapRead.{MapRead}
-use Rattle.layout.specs.Fault.{soundOf, given}
+use Rattle.zoning.specs.Fault.{soundOf, given}
 use Rattle.layout.specs.Map.{mapIn, mapOr, MapIs}
 use Rattle.layout.specs.Tables.{entryOf, entry-is}
 

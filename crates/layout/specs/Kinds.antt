@@ -20,9 +20,9 @@ use Rattle.kinds.specs.Tests.{kindTest}
 use Rattle.kinds.specs.Shape.{part, part-length}
 use Rattle.kinds.specs.Closed.{Stack}
 use Rattle.kinds.specs.Kind.{kind-is}
-use Rattle.layout.specs.Heads.{least-some}
-use Rattle.layout.specs.Zones.{Heads, zoneIn, zonesIn, noZone, zones-length, zones-at}
-use Rattle.layout.specs.Found.{ZonesHeld}
+use Rattle.zoning.specs.Heads.{least-some}
+use Rattle.zoning.specs.Zones.{Heads, zoneIn, zonesIn, noZone, zones-length, zones-at}
+use Rattle.zoning.specs.Found.{ZonesHeld}
 
 -- the rows show the map's edges, and each zone in the arrays may be tested
 pub record Ready (rows : List (List ℕ)) (m : Map) (h : Heads) (l zone : List ℕ) (c : ℕ) : Type 0 where

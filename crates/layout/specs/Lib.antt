@@ -1,13 +1,4 @@
-pub mod Chain
-pub mod Fault
-pub mod Bytes
-pub mod Heads
-pub mod Table
-pub mod Vertices
-pub mod Zones
-pub mod Reading
-pub mod Found
-pub mod Edges
+-- The whole map: what comes after the zones, and what callers have of a map that was read.
 pub mod Kinds
 pub mod Rest
 pub mod Map

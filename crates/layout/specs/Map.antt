@@ -11,14 +11,14 @@ use Rattle.spec.specs.Layout.{Map, Edge, listed, mapOf, zoneFrom, zoneOf, zoneA
 use Rattle.theory.specs.Basics.Lists.{getD-uniform}
 use Rattle.wire.specs.Payload.{payload}
 use Rattle.adjacency.specs.Rows.{blank, rowsOf, joinAll, Shows, shows-none}
-use Rattle.layout.specs.declared.MapFault.{MapFault}
-use Rattle.layout.specs.declared.MapFault.the-variants.{None}
-use Rattle.layout.specs.declared.ZonesRead.{ZonesRead}
+use Rattle.zoning.specs.declared.MapFault.{MapFault}
+use Rattle.zoning.specs.declared.MapFault.the-variants.{None}
+use Rattle.zoning.specs.declared.ZonesRead.{ZonesRead}
 use Rattle.layout.specs.declared.MapRead.{MapRead}
-use Rattle.layout.specs.Fault.{answered, soundOf, not-both, given, refused}
-use Rattle.layout.specs.Bytes.{held, held-payload}
-use Rattle.layout.specs.Zones.{zones-length, zones-at, placeFrom}
-use Rattle.layout.specs.Found.{ZonesAre, headsOf, zones-are}
+use Rattle.zoning.specs.Fault.{answered, soundOf, not-both, given, refused}
+use Rattle.zoning.specs.Bytes.{held, held-payload}
+use Rattle.zoning.specs.Zones.{zones-length, zones-at, placeFrom}
+use Rattle.zoning.specs.Found.{ZonesAre, headsOf, zones-are}
 use Rattle.layout.specs.Kinds.{zone-some}
 use Rattle.layout.specs.Rest.{mapAt, restOf, edgesIn, RestIs}
 

@@ -9,15 +9,15 @@ use Rattle.spec.specs.Outcome.{Outcome, ok, _>>=_, _>>_, check, member, below}
 use Rattle.spec.specs.Layout.{Map, Edge, readZones, listed, countsOf, zonesOf, edgesOf, kindsFrom, mapOf}
 use Rattle.wire.specs.Payload.{wordAt}
 use Rattle.adjacency.specs.Rows.{blank, rowsOf, Shows, shows-none}
-use Rattle.layout.specs.declared.MapFault.{MapFault}
-use Rattle.layout.specs.declared.CountsRead.{CountsRead}
-use Rattle.layout.specs.declared.ZonesRead.{ZonesRead}
-use Rattle.layout.specs.Fault.{answered, soundOf, sound-none, not-both, handed, relayed, handed-on, relayed-on}
-use Rattle.layout.specs.Bytes.{held}
-use Rattle.layout.specs.Heads.{countsIn}
-use Rattle.layout.specs.Zones.{zonesIn}
-use Rattle.layout.specs.Found.{ZonesAre, headsOf, zonesRead, zones-are, cover-is}
-use Rattle.layout.specs.Edges.{edgesAt, EdgesFound}
+use Rattle.zoning.specs.declared.MapFault.{MapFault}
+use Rattle.zoning.specs.declared.CountsRead.{CountsRead}
+use Rattle.zoning.specs.declared.ZonesRead.{ZonesRead}
+use Rattle.zoning.specs.Fault.{answered, soundOf, sound-none, not-both, handed, relayed, handed-on, relayed-on}
+use Rattle.zoning.specs.Bytes.{held}
+use Rattle.zoning.specs.Heads.{countsIn}
+use Rattle.zoning.specs.Zones.{zonesIn}
+use Rattle.zoning.specs.Found.{ZonesAre, headsOf, zonesRead, zones-are, cover-is}
+use Rattle.edging.specs.Edges.{edgesAt, EdgesFound}
 use Rattle.layout.specs.Kinds.{Ready, ready}
 
 abbrev pub mapAt : ℕ → ZonesRead → ℕ → List Edge → Map

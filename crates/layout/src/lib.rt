@@ -1,57 +1,16 @@
 // A map read from its payload, accepted or refused (document 01, "Block files" and "Zones and configurations").
 //
-//     heads    the counts, and a zone's kind and size
-//     zones    the zones' vertices in listed order, and the zone and place of each vertex
-//     edges    the edges, entered into the rows of the adjacency
 //     map      the whole map
 //     tables   the tables of a map that was read, indexed by a vertex or a zone and by nothing else
-mod edges;
-mod heads;
 pub mod map;
 pub mod tables;
-mod zones;
 
 pub use map::read_map;
 pub use tables::place_of;
 pub use tables::vertex_at;
 pub use tables::zone_entry;
 pub use tables::zone_of;
-
-// Why a map is refused whose blocks have passed, with the payload offset or the zone; None where it is accepted.
-pub enum MapFault {
-    None,
-    Short(usize),
-    Range(usize),
-    Listing(usize),
-    Edge(usize),
-    Kind(usize),
-}
-
-// How many vertices and zones there are, or why not.
-pub struct CountsRead {
-    pub fault: MapFault,
-    pub vertices: u8,
-    pub zones: u8,
-}
-
-// A zone's kind and size, or why not.
-pub struct HeadRead {
-    pub fault: MapFault,
-    pub kind: u8,
-    pub size: u8,
-}
-
-// The zones, and the offset after them, or why not.
-pub struct ZonesRead {
-    pub fault: MapFault,
-    pub next: usize,
-    pub kind: [u8; 64],
-    pub first: [u8; 64],
-    pub size: [u8; 64],
-    pub listed: [u8; 128],
-    pub zone: [u8; 128],
-    pub place: [u8; 128],
-}
+use zoning::MapFault;
 
 // A map, or why it is refused. Zone z has the kind kind[z] and the vertices listed[first[z]] to listed[first[z] + size[z] - 1];
 // vertex v stands in zone zone[v] at place place[v].
@@ -65,21 +24,4 @@ pub struct MapRead {
     pub listed: [u8; 128],
     pub zone: [u8; 128],
     pub place: [u8; 128],
-}
-
-ghost use mathlib.Core.Path.{_≡_};
-ghost use Rattle.layout.specs.Fault.{soundOf};
-
-// Is there no fault?
-fn sound(fault: MapFault) -> bool
-    ensures { λ r. ⌜ r ≡ soundOf fault ⌝ }
-{
-    match fault {
-        MapFault::None => true,
-        MapFault::Short(_) => false,
-        MapFault::Range(_) => false,
-        MapFault::Listing(_) => false,
-        MapFault::Edge(_) => false,
-        MapFault::Kind(_) => false,
-    }
 }

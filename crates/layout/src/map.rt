@@ -1,16 +1,16 @@
 // The whole map.
-use crate::MapFault;
 use crate::MapRead;
-use crate::ZonesRead;
+use zoning::MapFault;
+use zoning::ZonesRead;
 ghost use mathlib.Core.Path.{_≡_};
 ghost use mathlib.Core.Bool.{true};
-ghost use Prim.Native.Nat.{_+_, _<_, _≤_};
+ghost use Prim.Native.Nat.{_≤_};
 ghost use Rattle.spec.specs.Layout.{Map, kindsFrom, mapOf};
 ghost use Rattle.adjacency.specs.Rows.{blank};
-ghost use Rattle.layout.specs.Fault.{answered, soundOf};
-ghost use Rattle.layout.specs.Bytes.{held};
-ghost use Rattle.layout.specs.Zones.{zonesIn};
-ghost use Rattle.layout.specs.Found.{headsOf, ZonesAre};
+ghost use Rattle.zoning.specs.Fault.{answered, soundOf};
+ghost use Rattle.zoning.specs.Bytes.{held};
+ghost use Rattle.zoning.specs.Zones.{zonesIn};
+ghost use Rattle.zoning.specs.Found.{headsOf, ZonesAre};
 ghost use Rattle.layout.specs.Kinds.{Ready};
 ghost use Rattle.layout.specs.Map.{Nothing, LayoutIs, MapIs};
 ghost use Rattle.layout.specs.Rest.{RestIs};
@@ -56,9 +56,9 @@ fn read_rest(
     requires { ⌜ ZonesAre (held (now file) m) n z read × (soundOf (read .fault) ≡ true) × (now rows ≡ blank) ⌝ }
     ensures { λ r. ⌜ RestIs (now (file .entry)) m n read z (now (rows .exit)) r ⌝ }
 {
-    let covered = crate::zones::covered(&read.zone, n);
-    let fault = crate::edges::edges_of(file, m, n, covered, read.next, rows);
-    if !crate::sound(fault) {
+    let covered = zoning::zones::covered(&read.zone, n);
+    let fault = edging::edges::edges_of(file, m, n, covered, read.next, rows);
+    if !zoning::sound(fault) {
         return fault;
     }
     test_kinds(rows, read, z)
@@ -86,20 +86,20 @@ fn read_layout(file: &[u8], m: usize, rows: &mut [[u64; 2]; 128]) -> MapRead
     requires { ⌜ (m ≤ 65000) × (now rows ≡ blank) ⌝ }
     ensures { λ r. ⌜ LayoutIs (mapOf (held (now (file .entry)) m)) r (now (rows .exit)) ⌝ }
 {
-    let counts = crate::heads::read_counts(file, m);
+    let counts = zoning::heads::read_counts(file, m);
     let uncounted = counts.fault;
-    if !crate::sound(uncounted) {
+    if !zoning::sound(uncounted) {
         return refused(uncounted);
     }
     let n = counts.vertices;
     let z = counts.zones;
-    let read = crate::zones::read_zones(file, m, n as usize, z as usize);
+    let read = zoning::zones::read_zones(file, m, n as usize, z as usize);
     let unzoned = read.fault;
-    if !crate::sound(unzoned) {
+    if !zoning::sound(unzoned) {
         return refused(unzoned);
     }
     let fault = read_rest(file, m, n as usize, read, z as usize, rows);
-    if !crate::sound(fault) {
+    if !zoning::sound(fault) {
         return refused(fault);
     }
     let kind = read.kind;
@@ -128,7 +128,7 @@ pub fn read_map(file: &[u8], m: usize, rows: &mut [[u64; 2]; 128]) -> MapRead
 {
     let read = read_layout(file, m, rows);
     let fault = read.fault;
-    if !crate::sound(fault) {
+    if !zoning::sound(fault) {
         adjacency::clear(rows);
         return read;
     }

@@ -34,6 +34,11 @@ pub across-move : (vs : List ℕ) (q r i j v w : ℕ) → q ≡ r → v ≡ getD
 unfolding acrossMove
 across-move vs q r i j v w a e d = rw (a, e, d)
 
+-- no move
+pub made-nothing : (w : World) (vs : List ℕ) (ms : List Move) → ms ≡ [] → w ≡ madeAll w (across vs ms)
+unfolding madeAll across
+made-nothing w vs ms e = rw e
+
 -- a part, then the rest
 pub made-both : (w u : World) (vs : List ℕ) (ms ns : List Move) → u ≡ madeAll w (across vs ms)
     → madeAll u (across vs ns) ≡ madeAll w (across vs (ms ++ ns))

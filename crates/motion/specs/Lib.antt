@@ -2,7 +2,5 @@
 pub mod States
 pub mod Tables
 pub mod World
-pub mod Cells
 pub mod Across
 pub mod Coupling
-pub mod Reading

@@ -10,7 +10,7 @@ use borrow.Author.Tests.{lt-ltb, le-ltb}
 use Rattle.spec.specs.Arrangement.{Move, mv}
 use Rattle.spec.specs.State as meaning
 use Rattle.motion.specs.Tables.{tabled}
-use Rattle.wire.specs.Laid.{laidAll, laid-length, laid-out}
+use Rattle.writer.specs.Laid.{laidAll, laid-length, laid-out}
 
 -- ---- the buffer
 

@@ -1,4 +1,2 @@
 -- What reading and checking the files comes to.
-pub mod Refusals
 pub mod Opened
-pub mod Planned

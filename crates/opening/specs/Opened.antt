@@ -24,8 +24,8 @@ use Rattle.theory.specs.Maps.Layout.{Accepted, map-accepted}
 use Rattle.theory.specs.Maps.Placing.{Placed, placing-accepted}
 use Rattle.theory.specs.Services.Places.{Small, small-payload, small-map, small-placing, small-checked, count-small}
 use Rattle.adjacency.specs.Rows.{Shows}
-use Rattle.layout.specs.Fault as mapFault
-use Rattle.layout.specs.Bytes.{held}
+use Rattle.zoning.specs.Fault as mapFault
+use Rattle.zoning.specs.Bytes.{held}
 use Rattle.layout.specs.Map.{mapIn, mapOr, MapHeld, MapIs, file-map}
 use Rattle.layout.specs.declared.MapRead.{MapRead}
 use Rattle.placing.specs.Fault as placingFault
@@ -37,8 +37,8 @@ use Rattle.checking.specs.declared.Checked.{Checked}
 use Rattle.checking.specs.declared.Checked.the-variants.{Payload}
 use Rattle.replay.specs.Moves.{moveBy, movesBy, bytesOf, fileBytes, moves-same, moves-length}
 use Rattle.drawing.specs.Drawn.{EndsOn}
-use Rattle.opening.specs.Refusals.{refusalOr, movesFile, movesList}
-use Rattle.opening.specs.declared.Refusal.{Refusal}
+use Rattle.refusals.specs.Refusals.{refusalOr, movesFile, movesList}
+use Rattle.refusals.specs.declared.Refusal.{Refusal}
 use Rattle.opening.specs.declared.Opened.{Opened}
 use Rattle.opening.specs.declared.Yard.{Yard}
 

@@ -1,15 +1,7 @@
-// Map, placing, plan and move list read and checked in document 01's order of files, with the number and place of each refusal.
-//
-//     refusals   document 01's number and place for each refusal
-//     files      map, placing, plan and move list read and checked
+// Map, placing and move list, read and checked in document 01's order of files.
 pub mod files;
-pub mod refusals;
 
-// A refusal's number and place; number 0 is no refusal.
-pub struct Refusal {
-    pub number: u32,
-    pub place: usize,
-}
+use refusals::Refusal;
 
 // A map, a placing and a move list of `count` moves that is legal and reaches the goals; or why not.
 pub struct Opened {
@@ -24,10 +16,4 @@ pub struct Yard {
     pub refusal: Refusal,
     pub map: layout::MapRead,
     pub placing: placing::PlacingRead,
-}
-
-// How many moves a plan was resolved into; or why not.
-pub struct Planned {
-    pub refusal: Refusal,
-    pub count: usize,
 }

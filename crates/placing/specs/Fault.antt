@@ -2,8 +2,8 @@
 use mathlib.Core.Path.{_≡_, refl, ap}
 use mathlib.Core.Bool.{Bool, true, false}
 use Rattle.spec.specs.Outcome.{Outcome, ok, refuse, _>>=_}
-use Rattle.layout.specs.Chain.{Refused, hand, relay}
-use Rattle.layout.specs.Fault.{not-both}
+use Rattle.zoning.specs.Chain.{Refused, hand, relay}
+use Rattle.zoning.specs.Fault.{not-both}
 use Rattle.placing.specs.declared.PlacingFault.{PlacingFault}
 use Rattle.placing.specs.declared.PlacingFault.the-variants.{None, Length, Checksum, Head, Fill, Short, Range, Start, Goal}
 

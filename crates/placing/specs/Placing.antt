@@ -17,9 +17,9 @@ use Rattle.checking.specs.declared.Checked.{Checked}
 use Rattle.checking.specs.declared.Checked.the-variants.{Payload}
 use Rattle.wire.specs.Payload.{placeOf}
 use Rattle.checking.specs.Checked.{checkedOf, Held, Whole}
-use Rattle.layout.specs.Fault.{not-both}
-use Rattle.layout.specs.Bytes.{held, held-size, held-payload, no-byte, a-byte}
-use Rattle.layout.specs.Table.{member-snoc, member-here, member-there}
+use Rattle.zoning.specs.Fault.{not-both}
+use Rattle.zoning.specs.Bytes.{held, held-size, held-payload, no-byte, a-byte}
+use Rattle.zoning.specs.Table.{member-snoc, member-here, member-there}
 use Rattle.placing.specs.declared.PlacingFault.{PlacingFault}
 use Rattle.placing.specs.declared.PlacingFault.the-variants.{None}
 use Rattle.placing.specs.declared.PlacingRead.{PlacingRead}

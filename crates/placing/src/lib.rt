@@ -1,12 +1,12 @@
 // A placing read from its file, accepted or refused (document 01, "Block files").
 ghost use mathlib.Core.Path.{_≡_};
 ghost use mathlib.Core.Bool.{not};
-ghost use Prim.Native.Nat.{_+_, _*_, _<_, _≤_};
+ghost use Prim.Native.Nat.{_≤_};
 ghost use lib.ListN.{getD};
 ghost use lib.Dec.{eqb, ltb};
 ghost use Rattle.spec.specs.Outcome.{_&&_};
 ghost use Rattle.spec.specs.Layout.{Map, placingOf};
-ghost use Rattle.layout.specs.Bytes.{held};
+ghost use Rattle.zoning.specs.Bytes.{held};
 ghost use Rattle.layout.specs.Tables.{entryOf};
 ghost use Rattle.placing.specs.Fault.{soundOf};
 ghost use Rattle.placing.specs.Placing.{placingIn, Nothing, RobotsAre, PlacingIs};

@@ -1,7 +1,4 @@
--- What the listing program prints, and what ties its code to that.
-pub mod Text
-pub mod Listing
+-- What the services give the listing, and the listing of Yard A.
 pub mod Longer
-pub mod Lines
 pub mod Listed
 pub mod Yard

@@ -23,8 +23,8 @@ use Rattle.theory.specs.Terms.Services.{refuses, resolves, times}
 use Rattle.wire.specs.Payload.{placeOf, wordAt, lt-or-ge}
 use Rattle.answers.specs.Delivered.{file-length, fits-whole}
 use Rattle.replay.specs.Moves.{movesBy, bytesOf, fileBytes, moves-same}
-use Rattle.printing.specs.Listing.{newline, field, movesWord, listedMoves, textOf, movesText, refusedText, listingOf}
-use Rattle.printing.specs.Lines.{roundsBy, linesBy, file-byte, moves-of, rounds-of, rounds-same}
+use Rattle.lines.specs.Listing.{newline, field, movesWord, listedMoves, textOf, movesText, refusedText, listingOf}
+use Rattle.lines.specs.Lines.{roundsBy, linesBy, file-byte, moves-of, rounds-of, rounds-same}
 
 -- ---- a refusal
 

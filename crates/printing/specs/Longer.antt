@@ -11,7 +11,7 @@ use Rattle.spec.specs.Wire.{payloadOf, mapBlocks, placingBlocks, planBlocks}
 use Rattle.spec.specs.Services.{instanceOf, planMoves}
 use Rattle.wire.specs.Payload.{lt-or-ge}
 use Rattle.checking.specs.Checked.{size-odd, size-over}
-use Rattle.printing.specs.Listing.{listedMoves, listingOf}
+use Rattle.lines.specs.Listing.{listedMoves, listingOf}
 
 -- how many bytes are read of a file of at most `limit` blocks
 abbrev pub readOf : ℕ → ℕ

@@ -6,8 +6,8 @@ use Rattle.spec.specs.Outcome.{_>>=_, _>>_, check, _&&_, _||_}
 use Rattle.spec.specs.Wire.{fileOf, mapKind, placingKind, planKind}
 use Rattle.spec.specs.State.{movesPayload, roundsFrom}
 use Rattle.spec.specs.Services.{planMoves, fits}
-use Rattle.printing.specs.Text.{decimal}
-use Rattle.printing.specs.Listing.{listingOf}
+use Rattle.lines.specs.Text.{decimal}
+use Rattle.lines.specs.Listing.{listingOf}
 
 -- "stack 0,1,2; hall 3,4; edges 0-1, 0-3, 1-2, 3-4"
 abbrev yardMap : List ℕ

@@ -1,6 +1,6 @@
 // The listing program: reads MAP, PLACING and PLAN in the folder it runs in, and prints their listing.
 ghost use Rattle.io.specs.Counts.{Counts};
-use crate::lines::listing;
+use crate::files::listing;
 use libc::STDOUT_FILENO;
 
 // Reads a file into the buffer, as far as it goes, and answers how many bytes it read; a missing file has none.

@@ -22,11 +22,11 @@ use Rattle.theory.specs.Zones.Lengths as zones
 use Rattle.theory.specs.Bounds.{stepMost, resolved-few}
 use Rattle.wire.specs.Payload.{payload, held-length, lt-or-ge}
 use Rattle.wire.specs.Payload as wire
-use Rattle.wire.specs.Laid.{laidAll}
+use Rattle.writer.specs.Laid.{laidAll}
 use Rattle.motion.specs.World.{World, world, madeAll, made-append, count-is, buffer-is, buffer-length, mostMoves}
-use Rattle.stepping.specs.Given.{Started, Cleared}
-use Rattle.stepping.specs.Walk.{WalkOf, OverOf, after}
-use Rattle.stepping.specs.Left.{resolvedOn, fresh, on-none, on-steps, on-refused, on-surplus, on-goals, start-consistent}
+use Rattle.walking.specs.Given.{Started, Cleared}
+use Rattle.walking.specs.Walk.{WalkOf, OverOf, after}
+use Rattle.walking.specs.Left.{resolvedOn, fresh, on-none, on-steps, on-refused, on-surplus, on-goals, start-consistent}
 use Rattle.resolve.specs.declared.Resolved.{Resolved}
 use Rattle.resolve.specs.declared.Walked.{Walked}
 

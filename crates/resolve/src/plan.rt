@@ -1,11 +1,11 @@
 // A whole cleared plan resolved: the count, the steps, the endings.
 ghost use lib.ListN.{take};
 ghost use Rattle.wire.specs.Payload.{payload};
-ghost use Rattle.stepping.specs.Given.{Cleared};
+ghost use Rattle.walking.specs.Given.{Cleared};
 ghost use Rattle.resolve.specs.Whole.{ResolvedOr};
 use crate::Resolved;
-use crate::ending::end_zones;
 use crate::walk::walk;
+use bringing::ending::end_zones;
 
 // Resolves the plan whose payload stands in a checked file, and which is cleared: the moves are laid into the buffer, after the two bytes of the
 // count.

@@ -4,7 +4,7 @@ ghost use lib.ListN.{take};
 ghost use Rattle.wire.specs.Payload.{payload};
 ghost use Rattle.motion.specs.Tables.{tabled};
 ghost use Rattle.motion.specs.World.{worldIn};
-ghost use Rattle.stepping.specs.Given.{Started};
+ghost use Rattle.walking.specs.Given.{Started};
 ghost use Rattle.resolve.specs.Whole.{WalkedTo};
 use crate::Walked;
 use stepping::follow::list_length_at;

@@ -29,9 +29,9 @@ use Rattle.motion.specs.World.{World, madeAll, made-none}
 use Rattle.motion.specs.Across.{made-both, across-nil, arrangement-length}
 use Rattle.motion.specs.Coupling.{Listed, Inside, arranged}
 use Rattle.circle.specs.Pushes.{inside-pushes}
-use Rattle.circle.specs.Entry.{opened-at}
-use Rattle.motion.specs.Reading.{places-taken, places-free, places-over}
-use Rattle.ring.specs.Comparing.{end-full, end-open}
+use Rattle.turns.specs.Entry.{opened-at}
+use Rattle.cells.specs.Reading.{places-taken, places-free, places-over}
+use Rattle.turned.specs.Comparing.{end-full, end-open}
 
 -- ---- the lowest-numbered robot, read from the last place on
 

@@ -7,9 +7,9 @@ ghost use Rattle.spec.specs.Ring.{opened};
 ghost use Rattle.spec.specs.State.{arrangementOf, cellOf};
 ghost use Rattle.motion.specs.Tables.{onVertices};
 ghost use Rattle.ring.specs.Ending.{lowestCell};
+use cells::vertex_at;
 use circle::places::next;
 use circle::reading::robot_at;
-use motion::vertex_at;
 use numbering::Robot;
 
 // "the ring's lowest-numbered cart"; 255 where there is none.

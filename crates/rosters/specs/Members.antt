@@ -16,7 +16,7 @@ use Rattle.spec.specs.Outcome.{_&&_, all, member, indexOf}
 use Rattle.theory.specs.Basics.Tests.{of-true}
 use Rattle.adjacency.specs.Bit.{bitOf, bit-zero, bit-suc, set-same, set-other}
 use Rattle.adjacency.specs.Rows.{same-test, and-true, both}
-use Rattle.lineup.specs.Reach.{member-index}
+use Rattle.reaching.specs.Reach.{member-index}
 use Rattle.orders.specs.Orders.{sameMembers}
 
 -- ---- one by one

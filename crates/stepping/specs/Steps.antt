@@ -19,49 +19,19 @@ use Rattle.theory.specs.Zones.Kinds.{laws}
 use Rattle.theory.specs.Zones.Crossing.{Proper, extraOf}
 use Rattle.theory.specs.Plans.Taken.{Taken, leaving}
 use Rattle.theory.specs.Plans.Step.{proper}
-use Rattle.wire.specs.Payload.{payload, FourAt, held-length, held-byte}
-use Rattle.wire.specs.Payload as wire
+use Rattle.wire.specs.Payload.{payload, FourAt, held-length}
 use Rattle.wire.specs.declared.Four.{Four}
 use Rattle.motion.specs.World.{World, madeAll, made-none, state-is}
 use Rattle.motion.specs.World as world
 use Rattle.motion.specs.Across.{arrangement-length, across-nil}
-use Rattle.motion.specs.Reading.{robot-here, empty-here}
+use Rattle.cells.specs.Reading.{robot-here, empty-here}
 use Rattle.clique.specs.Entering.{Numbered, numbered-none, entered-numbered}
-use Rattle.zones.specs.Kinds.{leaveMoves, enterMoves, clique-can-enter}
+use Rattle.walking.specs.Kinds.{leaveMoves, enterMoves, clique-can-enter}
 use Rattle.zones.specs.Ready.{leave-ready, enter-ready}
-use Rattle.stepping.specs.Tests.{tests-passed, stepTests, stepMoves, Passes}
-use Rattle.stepping.specs.Given.{Started, Stepping, HasVertex, kindAt, verticesAt, has-vertex, kind-is, vertices-is, place-is}
-use Rattle.stepping.specs.Held.{heldPart, held-same, extra-most}
-use Rattle.stepping.specs.Walk.{entered-kept, step-made, Walking, walk-more, walk-passes}
-
--- a byte of the payload that the code read in the file
-pub byte-is : (f : List ℕ) (len o x : ℕ) → len ≤ length f / 512 * 504 → o < len → x ≡ getD f (wire.placeOf o) 0 → x ≡ getD (take len (payload f)) o 0
-byte-is f len o x most h e = e ∙ sym (held-byte f len most o h)
-
--- ---- the moves
-
-module _ (kind : ℕ) (s : State) (vs : List ℕ) (p : Proper (arrangementOf s vs)) (j : ℕ) (h : j < length vs) where
-  -- a place of the zone is one of its arrangement
-  placed : j < length (arrangementOf s vs)
-  placed = rw (arrangement-length s vs) h
-
-  -- who can leave is numbered below 255, which names none
-  leaver-small : (r : ℕ) → canLeave kind (arrangementOf s vs) r j ≡ true → r < 255
-  leaver-small r e = let x = laws kind .leaves (arrangementOf s vs) r j (p .once) placed (of-true e) in runs-named (x .1) (p .names) j r (x .2)
-
-  -- nothing is made where the leaver stands on its place already
-  pub left-ready : (r u : ℕ) (w : World) → getD vs j 0 ≡ u → canLeave kind (arrangementOf s vs) r j ≡ true → r ≡ robotOn s u
-      → w ≡ madeAll w (across vs (leaveMoves kind (arrangementOf s vs) r j))
-  left-ready r u w e l q =
-      let c : cell (arrangementOf s vs) j ≡ suc r = sym (robot-here s vs j r h (q ∙ ap (robotOn s) (sym e))) ∙ cell-of {r = r} (λ x. omega (arith, leaver-small r l)) in
-      made-none w _ (ap (across vs) (leave-ready kind (arrangementOf s vs) r j p c) ∙ across-nil vs)
-
-  -- nor where the place to enter is empty with the named robot behind it
-  pub entered-ready : (v behind : ℕ) (list : List ℕ) (w : World) → getD vs j 0 ≡ v → extraOf kind (arrangementOf s vs) ≡ 0 → 255 ≡ robotOn s v → behindOf kind (arrangementOf s vs) j ≡ behind
-      → w ≡ madeAll w (across vs (enterMoves kind (arrangementOf s vs) j behind list))
-  entered-ready v behind list w e x q b =
-      let c : cell (arrangementOf s vs) j ≡ 0 = empty-here s vs j 255 h (q ∙ ap (robotOn s) (sym e)) refl in
-      made-none w _ (ap (across vs) (enter-ready kind (arrangementOf s vs) j behind list p placed c b x) ∙ across-nil vs)
+use Rattle.walking.specs.Tests.{tests-passed, stepTests, stepMoves, Passes}
+use Rattle.walking.specs.Given.{Started, Stepping, HasVertex, kindAt, verticesAt, has-vertex, kind-is, vertices-is, place-is}
+use Rattle.walking.specs.Held.{byte-is, heldPart, held-same, extra-most}
+use Rattle.walking.specs.Walk.{entered-kept, step-made, Walking, walk-more, walk-passes}
 
 -- an empty list names nobody
 numbered-empty : (list : List ℕ) (j : ℕ) → length list ≡ 0 → Numbered list j

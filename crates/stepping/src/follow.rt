@@ -1,26 +1,17 @@
-// The follow list of a step: its length, and its bytes.
+// The length of a step's follow list.
 ghost use mathlib.Core.Path.{_≡_};
-ghost use Prim.Native.Nat.{ℕ, _+_, _*_, _/_, _≤_, _<_};
-ghost use lib.ListN.{length, getD};
+ghost use Prim.Native.Nat.{_<_};
+ghost use lib.ListN.{getD};
 ghost use Rattle.spec.specs.State.{arrangementOf};
 ghost use Rattle.theory.specs.Zones.Crossing.{extraOf};
 ghost use Rattle.motion.specs.Tables.{onVertices};
-ghost use Rattle.stepping.specs.Held.{heldPart};
-ghost use Rattle.stepping.specs.Given.{HasZone, kindAt, verticesAt};
-
-// The bytes of a follow list are copied from the payload in the file.
-pub fn copy_list(file: &[u8], from: usize, list: &mut [u8])
-    requires { ⌜ from + length (now list) ≤ length (now file) / 512 * 504 ⌝ }
-    ensures { λ q. ⌜ ((len : ℕ) → len ≤ length (now (file .entry)) / 512 * 504 → from + length (now (list .entry)) ≤ len → now (list .exit) ≡ heldPart (now (file .entry)) len from (length (now (list .entry)))) ⌝ }
-{
-    wire::payload_part(file, from, list);
-}
+ghost use Rattle.walking.specs.Given.{HasZone, kindAt, verticesAt};
 
 // How many bytes the follow list of a step into a zone has.
 fn list_length(kind: u8, robots: &[u8], zone: &[u8]) -> usize
     ensures { λ e. ⌜ e ≡ extraOf kind (arrangementOf (onVertices (now (robots .entry))) (now (zone .entry))) ⌝ }
 {
-    if zones::fills(kind, robots, zone) {
+    if leeway::fills(kind, robots, zone) {
         return zone.len();
     }
     0

@@ -13,7 +13,7 @@ use borrow.Author.Tests.{eqb-true, eqb-false, eq-eqb, ne-eqb}
 use Rattle.spec.specs.Arrangement.{Move, mv}
 use Rattle.spec.specs.Outcome.{u16}
 use Rattle.spec.specs.State.{Timed, lastRound, leftRound, roundOf, roundsFrom, wordBytes}
-use Rattle.wire.specs.Laid.{laidAll, laid-length, laid-append}
+use Rattle.writer.specs.Laid.{laidAll, laid-length, laid-append}
 use Rattle.replay.specs.Moves.{moveBy, movesBy, moves-next, moves-done}
 
 -- a move with its round

@@ -3,7 +3,7 @@ ghost use mathlib.Core.Path.{_≡_};
 ghost use mathlib.Core.List.{[]};
 ghost use Prim.Native.Nat.{_<_, max};
 ghost use Rattle.spec.specs.State.{wordBytes, roundsFrom};
-ghost use Rattle.wire.specs.Laid.{laidAll};
+ghost use Rattle.writer.specs.Laid.{laidAll};
 ghost use Rattle.replay.specs.Moves.{movesBy, fileBytes};
 
 fn later(a: u32, b: u32) -> u32
@@ -30,9 +30,9 @@ pub fn write_rounds(file: &[u8], count: usize, out: &mut [u8])
         let round = later(last[r] + 1, left[v]);
         last[r] = round;
         left[u] = round;
-        wire::put_word_at(out, place, round as u16);
+        writer::put_word_at(out, place, round as u16);
         at = wire::place_after(at);
-        place = wire::word_after(place);
+        place = writer::word_after(place);
         i += 1;
     }
 }

@@ -1,9 +1,7 @@
-// Payloads of block files (document 01, "Block files"), read and written where they stand.
+// Payloads of block files (document 01, "Block files"), read where they stand.
 //
 //     payload    the bytes of a payload, read from the file
-//     writing    the bytes of a payload, written to the buffer
 pub mod payload;
-pub mod writing;
 
 pub use payload::byte_at;
 pub use payload::next_place;
@@ -13,11 +11,6 @@ pub use payload::payload_part;
 pub use payload::payload_word;
 pub use payload::place_after;
 pub use payload::three_from;
-pub use writing::put_byte;
-pub use writing::put_three;
-pub use writing::put_word;
-pub use writing::put_word_at;
-pub use writing::word_after;
 
 // Three bytes of a payload that stand one after the other, as those of a move.
 pub struct Three {

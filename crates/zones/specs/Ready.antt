@@ -26,7 +26,7 @@ use Rattle.theory.specs.Zones.Hall.Leaving.{among-at, among-index}
 use Rattle.theory.specs.Zones.Ring.Frames.{wrap-ge}
 use Rattle.theory.specs.Zones.Kinds.{KindOf, clique, ring, hall, kind?, as-hall}
 use Rattle.theory.specs.Zones.Crossing.{Proper, extraOf}
-use Rattle.zones.specs.Kinds.{leaveMoves, enterMoves}
+use Rattle.walking.specs.Kinds.{leaveMoves, enterMoves}
 
 -- ---- halls: trips that lead nowhere
 

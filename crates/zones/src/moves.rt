@@ -10,7 +10,7 @@ ghost use Rattle.motion.specs.Tables.{onVertices};
 ghost use Rattle.motion.specs.World.{worldIn, madeAll};
 ghost use Rattle.motion.specs.Coupling.{Listed};
 ghost use Rattle.clique.specs.Entering.{Numbered};
-ghost use Rattle.zones.specs.Kinds.{leaveMoves, enterMoves, endMoves};
+ghost use Rattle.walking.specs.Kinds.{leaveMoves, enterMoves, endMoves};
 use numbering::Robot;
 
 // The moves that bring robot r, which can leave there, to place j.
@@ -30,7 +30,7 @@ pub fn leave(
     ensures { λ q. ⌜ worldIn (now (robots .exit)) (now (vertices .exit)) q (now (out .exit)) ≡ madeAll (worldIn (now (robots .entry)) (now (vertices .entry)) count (now (out .entry))) (across (now (zone .entry)) (leaveMoves kind (arrangementOf (onVertices (now (robots .entry))) (now (zone .entry))) (r .0) j)) ⌝ }
 {
     match kind {
-        3 => clique::leave(robots, vertices, count, zone, r, j, out),
+        3 => vacating::leave(robots, vertices, count, zone, r, j, out),
         4 => ring::leave(robots, vertices, count, zone, r, j, out),
         _ => hall::leave(robots, vertices, count, zone, r, j, out),
     }

@@ -7,31 +7,24 @@ use borrow.Author.Needs.{needs}
 use Rattle.adjacency.proofs.add_edge.Statement.{statement}
 use Rattle.adjacency.proofs.add_edge.Tie as tie
 
--- src/lib.rt:38:13
 cast-a : tie.Need-cast-a
 cast-a c = search needs
 
--- src/lib.rt:39:13
 cast-b : tie.Need-cast-b
 cast-b c = search needs
 
--- src/lib.rt:41:9
 returns : tie.Need-returns
 returns c = join-out _ _ _ (c .if1 .taken)
 
--- src/lib.rt:44:9
 returns-2 : tie.Need-returns-2
 returns-2 c = join-out-2 _ _ _ (c .before .if1 .left) (c .if2 .taken)
 
--- src/lib.rt:46:5
 put-requires : tie.Need-put-requires
 put-requires c κs = search needs
 
--- src/lib.rt:47:5
 put-requires-2 : tie.Need-put-requires-2
 put-requires-2 c κs = search needs
 
--- src/lib.rt:35:1
 returns-3 : tie.Need-returns-3
 returns-3 c =
     let a = c .before .before .before .before .before .before .before .before .args in

@@ -11,51 +11,39 @@ use borrow.Author.Needs.{needs}
 use Rattle.adjacency.proofs.put.Statement.{statement}
 use Rattle.adjacency.proofs.put.Tie as tie
 
--- src/lib.rt:29:16
 mul-word : tie.Need-mul-word
 mul-word c = search needs
 
--- src/lib.rt:29:16
 mul-word-2 : tie.Need-mul-word-2
 mul-word-2 c = search needs
 
--- src/lib.rt:29:16
 index-1-word : tie.Need-index-1-word
 index-1-word c = search needs
 
--- src/lib.rt:29:16
 index-2-word : tie.Need-index-2-word
 index-2-word c = search needs
 
--- src/lib.rt:30:17
 cast-place : tie.Need-cast-place
 cast-place c = search needs
 
--- src/lib.rt:31:36
 cast-rows : tie.Need-cast-rows
 cast-rows c = search needs
 
--- src/lib.rt:31:31
 shl-rows : tie.Need-shl-rows
 shl-rows c = search needs
 
--- src/lib.rt:31:5
 mul-rows : tie.Need-mul-rows
 mul-rows c = search needs
 
--- src/lib.rt:31:5
 mul-rows-2 : tie.Need-mul-rows-2
 mul-rows-2 c = search needs
 
--- src/lib.rt:31:5
 index-1-rows : tie.Need-index-1-rows
 index-1-rows c = search needs
 
--- src/lib.rt:31:5
 index-2-rows : tie.Need-index-2-rows
 index-2-rows c = search needs
 
--- src/lib.rt:25:1
 returns : tie.Need-returns
 returns c =
     let a = c .before .args in

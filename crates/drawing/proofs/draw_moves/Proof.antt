@@ -5,7 +5,7 @@ use lib.ListN.{length}
 use Rattle.spec.specs.Layout.{Map}
 use Rattle.spec.specs.State.{State}
 use Rattle.theory.specs.Maps.Layout.{Accepted}
-use Rattle.layout.specs.declared.MapFault.{MapFault}
+use Rattle.zoning.specs.declared.MapFault.{MapFault}
 use Rattle.layout.specs.Map.{MapHeld}
 use Rattle.wire.specs.Payload.{placeOf}
 use Rattle.motion.specs.States.{movedBy}

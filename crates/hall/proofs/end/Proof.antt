@@ -18,47 +18,36 @@ use Rattle.motion.proofs.least.Reads as least-reads
 use Rattle.lineup.proofs.line.line_up.Reads as line-up-reads
 use Rattle.hall.proofs.trips.settle.Reads as settle-reads
 
--- src/lib.rt:118:35
 slice-aggregate-line-up : tie.Need-slice-aggregate-line-up
 slice-aggregate-line-up c = search needs
 
--- src/lib.rt:118:46
 slice-aggregate-line-up-2 : tie.Need-slice-aggregate-line-up-2
 slice-aggregate-line-up-2 c = search needs
 
--- src/lib.rt:118:9
 line-up-requires : tie.Need-line-up-requires
 line-up-requires c κs = search needs
 
--- src/lib.rt:121:34
 slice-aggregate-line-up-3 : tie.Need-slice-aggregate-line-up-3
 slice-aggregate-line-up-3 c = search needs
 
--- src/lib.rt:121:47
 slice-aggregate-line-up-4 : tie.Need-slice-aggregate-line-up-4
 slice-aggregate-line-up-4 c = search needs
 
--- src/lib.rt:121:9
 line-up-requires-2 : tie.Need-line-up-requires-2
 line-up-requires-2 c κs = search needs
 
--- src/lib.rt:127:9
 slice-aggregate-settle : tie.Need-slice-aggregate-settle
 slice-aggregate-settle c = search needs
 
--- src/lib.rt:128:9
 slice-aggregate-settle-2 : tie.Need-slice-aggregate-settle-2
 slice-aggregate-settle-2 c = search needs
 
--- src/lib.rt:129:9
 slice-aggregate-settle-3 : tie.Need-slice-aggregate-settle-3
 slice-aggregate-settle-3 c = search needs
 
--- src/lib.rt:130:9
 least-requires : tie.Need-least-requires
 least-requires c κs = search needs
 
--- src/lib.rt:122:5
 settle-requires : tie.Need-settle-requires
 settle-requires c κs =
     let a = c .before .before .before .before .before .before .before .before .before .before .before .before .before .before .before .before .before .before .before .before .before .before .before .args in
@@ -69,19 +58,15 @@ settle-requires c κs =
     let y : m .result ≤ 128 = omega (arith, m .ensures .short, arrangement-length (onVertices (a .goals .now)) (a .zone .now), c .before .before .before .before .before .before .before .before .before .before .before .before .before .before .before .before .before .before .before .before .before .before .before .pre) in
     (search needs, search needs, search needs)
 
--- src/lib.rt:105:1
 same-length : tie.Need-same-length
 same-length c = search needs
 
--- src/lib.rt:105:1
 same-length-2 : tie.Need-same-length-2
 same-length-2 c = search needs
 
--- src/lib.rt:105:1
 same-length-3 : tie.Need-same-length-3
 same-length-3 c = search needs
 
--- src/lib.rt:105:1
 returns : tie.Need-returns
 returns c =
     let a = c .before .before .before .before .before .before .before .before .before .before .before .before .before .before .before .before .before .before .before .before .before .before .before .before .before .before .before .before .before .before .args in

@@ -19,76 +19,60 @@ use Rattle.lineup.proofs.goals.spread.Reads as spread-reads
 use Rattle.lineup.proofs.line.line_up.Reads as line-up-reads
 use Rattle.hall.proofs.trips.settle.Reads as settle-reads
 
--- src/lib.rt:88:35
 slice-aggregate-line-up : tie.Need-slice-aggregate-line-up
 slice-aggregate-line-up c = search needs
 
--- src/lib.rt:88:46
 slice-aggregate-line-up-2 : tie.Need-slice-aggregate-line-up-2
 slice-aggregate-line-up-2 c = search needs
 
--- src/lib.rt:88:9
 line-up-requires : tie.Need-line-up-requires
 line-up-requires c κs = search needs
 
--- src/lib.rt:89:24
 slice-aggregate-lower-than : tie.Need-slice-aggregate-lower-than
 slice-aggregate-lower-than c = search needs
 
--- src/lib.rt:89:9
 lower-than-requires : tie.Need-lower-than-requires
 lower-than-requires c κs =
     let l = c .before .before .before .line-up in
     let x : l .result ≤ 128 = omega (arith, l .ensures .short, arrangement-length (onVertices (c .before .before .before .before .before .before .before .before .before .before .before .args .robots .now)) (c .before .before .before .before .before .before .before .before .before .before .before .args .zone .now), c .before .before .before .before .before .before .before .before .before .before .before .pre) in
     search needs
 
--- src/lib.rt:90:12
 slice-aggregate-spread : tie.Need-slice-aggregate-spread
 slice-aggregate-spread c = search needs
 
--- src/lib.rt:90:33
 slice-aggregate-spread-2 : tie.Need-slice-aggregate-spread-2
 slice-aggregate-spread-2 c = search needs
 
--- src/lib.rt:90:5
 spread-requires : tie.Need-spread-requires
 spread-requires c κs =
     let l = c .before .before .before .before .before .before .line-up in
     let x : l .result ≤ 128 = omega (arith, l .ensures .short, arrangement-length (onVertices (c .before .before .before .before .before .before .before .before .before .before .before .before .before .before .args .robots .now)) (c .before .before .before .before .before .before .before .before .before .before .before .before .before .before .args .zone .now), c .before .before .before .before .before .before .before .before .before .before .before .before .before .before .pre) in
     (search needs, search needs, search needs, c .before .before .before .before .before .before .before .before .before .before .before .before .before .before .pre .1)
 
--- src/lib.rt:96:9
 slice-aggregate-settle : tie.Need-slice-aggregate-settle
 slice-aggregate-settle c = search needs
 
--- src/lib.rt:97:9
 slice-aggregate-settle-2 : tie.Need-slice-aggregate-settle-2
 slice-aggregate-settle-2 c = search needs
 
--- src/lib.rt:98:9
 slice-aggregate-settle-3 : tie.Need-slice-aggregate-settle-3
 slice-aggregate-settle-3 c = search needs
 
--- src/lib.rt:91:5
 settle-requires : tie.Need-settle-requires
 settle-requires c κs =
     let l = c .before .before .before .before .before .before .before .before .before .before .before .before .before .before .line-up in
     let x : l .result ≤ 128 = omega (arith, l .ensures .short, arrangement-length (onVertices (c .before .before .before .before .before .before .before .before .before .before .before .before .before .before .before .before .before .before .before .before .before .before .args .robots .now)) (c .before .before .before .before .before .before .before .before .before .before .before .before .before .before .before .before .before .before .before .before .before .before .args .zone .now), c .before .before .before .before .before .before .before .before .before .before .before .before .before .before .before .before .before .before .before .before .before .before .pre) in
     (search needs, search needs, search needs)
 
--- src/lib.rt:73:1
 same-length : tie.Need-same-length
 same-length c = search needs
 
--- src/lib.rt:73:1
 same-length-2 : tie.Need-same-length-2
 same-length-2 c = search needs
 
--- src/lib.rt:73:1
 same-length-3 : tie.Need-same-length-3
 same-length-3 c = search needs
 
--- src/lib.rt:73:1
 returns : tie.Need-returns
 returns c =
     let a = c .before .before .before .before .before .before .before .before .before .before .before .before .before .before .before .before .before .before .before .before .before .before .before .before .before .before .before .before .before .args in

@@ -21,34 +21,27 @@ use Rattle.lineup.proofs.goals.spread.Reads as spread-reads
 use Rattle.lineup.proofs.line.line_up.Reads as line-up-reads
 use Rattle.hall.proofs.trips.settle.Reads as settle-reads
 
--- src/lib.rt:56:35
 slice-aggregate-line-up : tie.Need-slice-aggregate-line-up
 slice-aggregate-line-up c = search needs
 
--- src/lib.rt:56:46
 slice-aggregate-line-up-2 : tie.Need-slice-aggregate-line-up-2
 slice-aggregate-line-up-2 c = search needs
 
--- src/lib.rt:56:9
 line-up-requires : tie.Need-line-up-requires
 line-up-requires c κs = search needs
 
--- src/lib.rt:57:22
 slice-aggregate-index-of : tie.Need-slice-aggregate-index-of
 slice-aggregate-index-of c = search needs
 
--- src/lib.rt:57:9
 index-of-requires : tie.Need-index-of-requires
 index-of-requires c κs =
     let l = c .before .before .before .line-up in
     let x : l .result ≤ 128 = omega (arith, l .ensures .short, arrangement-length (onVertices (c .before .before .before .before .before .before .before .before .before .before .before .args .robots .now)) (c .before .before .before .before .before .before .before .before .before .before .before .args .zone .now), c .before .before .before .before .before .before .before .before .before .before .before .pre) in
     search needs
 
--- src/lib.rt:58:12
 slice-aggregate-spread : tie.Need-slice-aggregate-spread
 slice-aggregate-spread c = search needs
 
--- src/lib.rt:58:27
 add-spread : tie.Need-add-spread
 add-spread c =
     let l = c .before .before .before .before .before .line-up in
@@ -56,49 +49,39 @@ add-spread c =
     let rs = l .last .1 .1 .0 in
     omega (arith, c .before .index-of .ensures, index-most (c .before .before .before .before .before .before .before .before .before .before .before .before .before .args .r .0) (take (l .result) rs), length-take (l .result) rs)
 
--- src/lib.rt:58:37
 slice-aggregate-spread-2 : tie.Need-slice-aggregate-spread-2
 slice-aggregate-spread-2 c = search needs
 
--- src/lib.rt:58:5
 spread-requires : tie.Need-spread-requires
 spread-requires c κs =
     let l = c .before .before .before .before .before .before .line-up in
     let x : l .result ≤ 128 = omega (arith, l .ensures .short, arrangement-length (onVertices (c .before .before .before .before .before .before .before .before .before .before .before .before .before .before .args .robots .now)) (c .before .before .before .before .before .before .before .before .before .before .before .before .before .before .args .zone .now), c .before .before .before .before .before .before .before .before .before .before .before .before .before .before .pre) in
     (search needs, search needs, search needs, c .before .before .before .before .before .before .before .before .before .before .before .before .before .before .pre .1)
 
--- src/lib.rt:64:9
 slice-aggregate-settle : tie.Need-slice-aggregate-settle
 slice-aggregate-settle c = search needs
 
--- src/lib.rt:65:9
 slice-aggregate-settle-2 : tie.Need-slice-aggregate-settle-2
 slice-aggregate-settle-2 c = search needs
 
--- src/lib.rt:66:9
 slice-aggregate-settle-3 : tie.Need-slice-aggregate-settle-3
 slice-aggregate-settle-3 c = search needs
 
--- src/lib.rt:59:5
 settle-requires : tie.Need-settle-requires
 settle-requires c κs =
     let l = c .before .before .before .before .before .before .before .before .before .before .before .before .before .before .line-up in
     let x : l .result ≤ 128 = omega (arith, l .ensures .short, arrangement-length (onVertices (c .before .before .before .before .before .before .before .before .before .before .before .before .before .before .before .before .before .before .before .before .before .before .args .robots .now)) (c .before .before .before .before .before .before .before .before .before .before .before .before .before .before .before .before .before .before .before .before .before .before .args .zone .now), c .before .before .before .before .before .before .before .before .before .before .before .before .before .before .before .before .before .before .before .before .before .before .pre) in
     (search needs, search needs, search needs)
 
--- src/lib.rt:41:1
 same-length : tie.Need-same-length
 same-length c = search needs
 
--- src/lib.rt:41:1
 same-length-2 : tie.Need-same-length-2
 same-length-2 c = search needs
 
--- src/lib.rt:41:1
 same-length-3 : tie.Need-same-length-3
 same-length-3 c = search needs
 
--- src/lib.rt:41:1
 returns : tie.Need-returns
 returns c =
     let a = c .before .before .before .before .before .before .before .before .before .before .before .before .before .before .before .before .before .before .before .before .before .before .before .before .before .before .before .before .before .args in

@@ -3,12 +3,10 @@ use Rattle.spec.specs.Layout.{sameBool}
 use Rattle.kinds.proofs.same.Statement.{statement}
 use Rattle.kinds.proofs.same.Tie as tie
 
--- src/lib.rt:28:1
 returns : tie.Need-returns
 unfolding sameBool
 returns c = simp (sameBool, c .if1 .taken)
 
--- src/lib.rt:28:1
 returns-2 : tie.Need-returns-2
 unfolding sameBool
 returns-2 c = simp (sameBool, c .if1 .left)

@@ -11,31 +11,24 @@ use Rattle.motion.proofs.one_more.Reads as one-more-reads
 use Rattle.motion.proofs.put_move.Reads as put-move-reads
 use Rattle.motion.proofs.shift.Reads as shift-reads
 
--- src/lib.rt:187:5
 shift-requires : tie.Need-shift-requires
 shift-requires c κs = search needs
 
--- src/lib.rt:188:5
 put-move-requires : tie.Need-put-move-requires
 put-move-requires c κs = search needs
 
--- src/lib.rt:189:5
 one-more-requires : tie.Need-one-more-requires
 one-more-requires c κs = search needs
 
--- src/lib.rt:176:1
 same-length : tie.Need-same-length
 same-length c = search needs
 
--- src/lib.rt:176:1
 same-length-2 : tie.Need-same-length-2
 same-length-2 c = search needs
 
--- src/lib.rt:176:1
 same-length-3 : tie.Need-same-length-3
 same-length-3 c = search needs
 
--- src/lib.rt:176:1
 returns : tie.Need-returns
 returns c =
     let a = c .before .before .before .before .before .before .before .before .before .before .before .before .before .before .before .args in

@@ -9,31 +9,24 @@ use Rattle.motion.proofs.moved.Tie as tie
 use Rattle.motion.proofs.moved.Reads as reads
 use Rattle.motion.proofs.moved.Lts as lts
 
--- src/lib.rt:70:13
 cast-left : tie.Need-cast-left
 cast-left c = search needs
 
--- src/lib.rt:71:13
 cast-taken : tie.Need-cast-taken
 cast-taken c = search needs
 
--- src/lib.rt:72:13
 cast-robot : tie.Need-cast-robot
 cast-robot c = search needs
 
--- src/lib.rt:75:9
 element-set-from-t : tie.Need-element-set-from-t
 element-set-from-t c = search needs
 
--- src/lib.rt:78:9
 element-set-from-r : tie.Need-element-set-from-r
 element-set-from-r c = search needs
 
--- src/lib.rt:81:9
 element-set-from-to : tie.Need-element-set-from-to
 element-set-from-to c = search needs
 
--- src/lib.rt:67:1
 returns : tie.Need-returns
 returns c =
     let a = c .before .before .before .before .before .before .args in
@@ -47,7 +40,6 @@ returns c =
     ⊎-elim (λ w. w .1) (λ w. w .1 ∙ robot-past-end t₁ (a .to .0) (a .r) d (w .0 .left)) (c .before .if2 .came) in
     moved-leaves (a .s) t₁ t₂ _ (a .r) (a .from) (a .to) p q refl
 
--- src/lib.rt:67:1
 returns-2 : tie.Need-returns-2
 returns-2 c =
     let a = c .before .before .before .before .before .before .args in

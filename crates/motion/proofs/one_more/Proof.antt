@@ -5,15 +5,12 @@ use Rattle.motion.proofs.one_more.Tie as tie
 use Rattle.motion.proofs.one_more.Reads as reads
 use Rattle.motion.proofs.one_more.Lts as lts
 
--- src/lib.rt:136:16
 add-result : tie.Need-add-result
 add-result c = search needs
 
--- src/lib.rt:136:9
 returns : tie.Need-returns
 returns c = one-more _ (search needs)
 
--- src/lib.rt:132:1
 returns-2 : tie.Need-returns-2
 returns-2 c = no-more _ (search needs)
 

@@ -6,19 +6,15 @@ use Rattle.motion.proofs.put_cell.Tie as tie
 use Rattle.motion.proofs.put_cell.Reads as reads
 use Rattle.motion.proofs.put_cell.Lts as lts
 
--- src/lib.rt:192:9
 slice-write-cells : tie.Need-slice-write-cells
 slice-write-cells c = search needs
 
--- src/lib.rt:188:1
 same-length : tie.Need-same-length
 same-length c = search needs
 
--- src/lib.rt:188:1
 returns : tie.Need-returns
 returns c = search needs
 
--- src/lib.rt:188:1
 returns-2 : tie.Need-returns-2
 returns-2 c = sym (set-out _ _ _ (c .if1 .left))
 

@@ -7,31 +7,25 @@ use Rattle.motion.proofs.put_move.Statement.{statement}
 use Rattle.motion.proofs.put_move.Tie as tie
 use Rattle.motion.proofs.put_move.Reads as reads
 use Rattle.motion.proofs.put_move.Lts as lts
-use Rattle.wire.proofs.put_three.Reads as put-three-reads
+use Rattle.writer.proofs.put_three.Reads as put-three-reads
 
--- src/lib.rt:162:24
 mul-put-three : tie.Need-mul-put-three
 mul-put-three c = search needs
 
--- src/lib.rt:162:24
 add-put-three : tie.Need-add-put-three
 add-put-three c = search needs
 
--- src/lib.rt:162:9
 put-three-requires : tie.Need-put-three-requires
 put-three-requires c κs = search needs
 
--- src/lib.rt:158:1
 same-length : tie.Need-same-length
 same-length c = search needs
 
--- src/lib.rt:158:1
 returns : tie.Need-returns
 returns c =
     let a = c .before .before .before .before .before .before .args in
     c .before .before .put-three .ensures ∙ laid-move (a .out .now) (a .n) (mv (a .r .0) (a .from .0) (a .to .0))
 
--- src/lib.rt:158:1
 returns-2 : tie.Need-returns-2
 returns-2 c = laid-move-past _ _ _ (c .if1 .left)
 

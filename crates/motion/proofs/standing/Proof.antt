@@ -16,54 +16,42 @@ Inv-loop k starts n s₀ i₀ s i = Standing starts n i s
 abbrev μ-loop : tie.MeasureT-loop
 μ-loop k starts n s₀ i₀ s i = n - i
 
--- src/lib.rt:39:9
 least-requires : tie.Need-least-requires Inv-loop μ-loop
 least-requires c κs = search needs
 
--- src/lib.rt:45:5
 loop-holds : tie.Need-loop-holds Inv-loop μ-loop
 loop-holds c = standing-none (c .before .args .t1) (c .least .result) (omega (arith, c .least .ensures)) (search (needs, length-mapped))
 
--- src/lib.rt:46:24
 array-read-t17 : tie.Need-array-read-t17 Inv-loop μ-loop
 array-read-t17 c = search needs
 
--- src/lib.rt:47:18
 cast-at : tie.Need-cast-at Inv-loop μ-loop
 cast-at c = search needs
 
--- src/lib.rt:48:23
 cast-t17 : tie.Need-cast-t17 Inv-loop μ-loop
 cast-t17 c = search needs
 
--- src/lib.rt:49:9
 element-set-from-v : tie.Need-element-set-from-v Inv-loop μ-loop
 element-set-from-v c = search needs
 
--- src/lib.rt:50:9
 add-i : tie.Need-add-i Inv-loop μ-loop
 add-i c = search needs
 
--- src/lib.rt:52:13
 element-set-from-r : tie.Need-element-set-from-r Inv-loop μ-loop
 element-set-from-r c = search needs
 
--- src/lib.rt:45:5
 loop-less : tie.Need-loop-less Inv-loop μ-loop
 loop-less c = search needs
 
--- src/lib.rt:45:5
 loop-again : tie.Need-loop-again Inv-loop μ-loop
 loop-again c =
     let o = c .before .before .before .loop in
     let vs = c .before .before .before .before .before .args .t1 in
     standing-next vs _ (o .i) (o .s) _ (record { 0 = o .i }) (record { 0 = getD vs (o .i) 0 }) (o .inv) (search needs) refl refl refl
 
--- src/lib.rt:45:5
 loop-less-2 : tie.Need-loop-less-2 Inv-loop μ-loop
 loop-less-2 c = search needs
 
--- src/lib.rt:45:5
 loop-again-2 : tie.Need-loop-again-2 Inv-loop μ-loop
 loop-again-2 c =
     let o = c .before .before .before .loop in
@@ -71,7 +59,6 @@ loop-again-2 c =
     standing-next vs _ (o .i) (o .s) _ (record { 0 = o .i }) (record { 0 = getD vs (o .i) 0 }) (o .inv) (search needs) refl refl
     (robot-past-end (withVertex (o .s) (o .i) (record { 0 = getD vs (o .i) 0 })) (getD vs (o .i) 0) (record { 0 = o .i }) (o .inv .robots-long) (c .if1 .left))
 
--- src/lib.rt:36:1
 returns : tie.Need-returns Inv-loop μ-loop
 returns c =
     let a = c .before .before .before .args in

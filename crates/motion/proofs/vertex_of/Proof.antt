@@ -7,22 +7,18 @@ use Rattle.motion.proofs.vertex_of.Tie as tie
 use Rattle.motion.proofs.vertex_of.Reads as reads
 use Rattle.motion.proofs.vertex_of.Lts as lts
 
--- src/lib.rt:101:13
 cast-i : tie.Need-cast-i
 cast-i c = search needs
 
--- src/lib.rt:103:16
 element-copy-out-result : tie.Need-element-copy-out-result
 element-copy-out-result c = search needs
 
--- src/lib.rt:103:9
 returns : tie.Need-returns
 returns c =
     let a = c .before .before .before .args in
     let e : length (a .t1 .vertices) ≡ 64 = search (needs, length-mapped) in
     vertex-in (a .t1) (a .r .0) e (search needs)
 
--- src/lib.rt:98:1
 returns-2 : tie.Need-returns-2
 returns-2 c =
     let a = c .before .before .args in

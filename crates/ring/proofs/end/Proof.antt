@@ -13,30 +13,25 @@ use Rattle.ring.proofs.end.Tie as tie
 use Rattle.ring.proofs.end.Reads as reads
 use Rattle.ring.proofs.end.Lts as lts
 use Rattle.hall.proofs.end.Reads as end-reads
-use Rattle.motion.proofs.place_of.Reads as place-of-reads
+use Rattle.cells.proofs.place_of.Reads as place-of-reads
 use Rattle.ring.proofs.ending.lowest.Reads as lowest-reads
 use Rattle.ring.proofs.ending.open_at.Reads as open-at-reads
 use Rattle.circle.proofs.pushing.push_to.Reads as push-to-reads
 
--- src/lib.rt:137:9
 lowest-requires : tie.Need-lowest-requires
 lowest-requires c κs = search needs
 
--- src/lib.rt:139:9
 same-length : tie.Need-same-length
 same-length c = search needs
 
--- src/lib.rt:139:9
 returns : tie.Need-returns
 returns c =
     let a = c .before .before .before .before .before .before .before .before .before .args in
     ends-nobody (onVertices (a .robots .now)) (onVertices (a .goals .now)) (a .zone .now) (c .before .before .lowest .result .0) (c .before .before .lowest .ensures) (c .if1 .taken) (worldIn (a .robots .now) (a .vertices .now) (a .count) (a .out .now))
 
--- src/lib.rt:141:9
 place-of-requires : tie.Need-place-of-requires
 place-of-requires c κs = search needs
 
--- src/lib.rt:142:9
 push-to-requires : tie.Need-push-to-requires
 push-to-requires c κs =
     let a = c .before .before .before .before .before .before .before .before .before .before .before .before .before .args in
@@ -45,11 +40,9 @@ push-to-requires c κs =
       (c .before .before .before .before .before .before .before .before .before .before .before .before .before .pre .1 .0, ends-stands (onVertices (a .robots .now)) (onVertices (a .goals .now)) z (c .before .before .before .before .before .before .lowest .result .0) (c .before .before .before .before .before .before .lowest .ensures) (c .before .before .before .before .if1 .left)),
     )
 
--- src/lib.rt:144:22
 slice-aggregate-open-at : tie.Need-slice-aggregate-open-at
 slice-aggregate-open-at c = search needs
 
--- src/lib.rt:144:5
 open-at-requires : tie.Need-open-at-requires
 open-at-requires c κs =
     let a = c .before .before .before .before .before .before .before .before .before .before .before .before .before .before .before .before .before .before .before .before .before .args in
@@ -58,17 +51,14 @@ open-at-requires c κs =
       search needs,
     )
 
--- src/lib.rt:145:13
 sub-n : tie.Need-sub-n
 sub-n c =
     let a = c .before .before .before .before .before .before .before .before .before .before .before .before .before .before .before .before .before .before .before .before .before .before .before .args in
     omega (arith, ends-stands (onVertices (a .robots .now)) (onVertices (a .goals .now)) (a .zone .now) (c .before .before .before .before .before .before .before .before .before .before .before .before .before .before .before .before .lowest .result .0) (c .before .before .before .before .before .before .before .before .before .before .before .before .before .before .before .before .lowest .ensures) (c .before .before .before .before .before .before .before .before .before .before .before .before .before .before .if1 .left))
 
--- src/lib.rt:146:41
 array-share-prefix-others : tie.Need-array-share-prefix-others
 array-share-prefix-others c = search needs
 
--- src/lib.rt:146:41
 slice-aggregate-end : tie.Need-slice-aggregate-end
 slice-aggregate-end c =
     let a = c .before .before .before .before .before .before .before .before .before .before .before .before .before .before .before .before .before .before .before .before .before .before .before .before .before .before .args in
@@ -76,7 +66,6 @@ slice-aggregate-end c =
     let h : c .before .before .before .before .before .before .before .before .before .before .before .before .before .before .before .before .place-of .result < length z = omega (arith, c .before .before .before .before .before .before .before .before .before .before .before .before .before .before .before .before .place-of .ensures, ends-goal (onVertices (a .robots .now)) (onVertices (a .goals .now)) z (c .before .before .before .before .before .before .before .before .before .before .before .before .before .before .before .before .before .before .before .lowest .result .0) (c .before .before .before .before .before .before .before .before .before .before .before .before .before .before .before .before .before .before .before .lowest .ensures) (c .before .before .before .before .before .before .before .before .before .before .before .before .before .before .before .before .before .if1 .left) (c .before .before .before .before .before .before .before .before .before .before .before .before .before .before .before .before .before .before .before .before .before .before .before .before .before .before .pre .1 .1)) in
     opened-count z _ (c .before .before .before .before .before .before .before .before .before .before .before .before .before .before .before .before .place-of .result) h (c .before .before .before .before .open-at .ensures)
 
--- src/lib.rt:146:5
 end-requires : tie.Need-end-requires
 end-requires c κs =
     let a = c .before .before .before .before .before .before .before .before .before .before .before .before .before .before .before .before .before .before .before .before .before .before .before .before .before .before .before .args in
@@ -84,19 +73,15 @@ end-requires c κs =
     let h : c .before .before .before .before .before .before .before .before .before .before .before .before .before .before .before .before .before .place-of .result < length z = omega (arith, c .before .before .before .before .before .before .before .before .before .before .before .before .before .before .before .before .before .place-of .ensures, ends-goal (onVertices (a .robots .now)) (onVertices (a .goals .now)) z (c .before .before .before .before .before .before .before .before .before .before .before .before .before .before .before .before .before .before .before .before .lowest .result .0) (c .before .before .before .before .before .before .before .before .before .before .before .before .before .before .before .before .before .before .before .before .lowest .ensures) (c .before .before .before .before .before .before .before .before .before .before .before .before .before .before .before .before .before .before .if1 .left) (c .before .before .before .before .before .before .before .before .before .before .before .before .before .before .before .before .before .before .before .before .before .before .before .before .before .before .before .pre .1 .1)) in
     omega (arith, opened-count z _ (c .before .before .before .before .before .before .before .before .before .before .before .before .before .before .before .before .before .place-of .result) h (c .before .before .before .before .before .open-at .ensures), c .before .before .before .before .before .before .before .before .before .before .before .before .before .before .before .before .before .before .before .before .before .before .before .before .before .before .before .pre .0)
 
--- src/lib.rt:124:1
 same-length-2 : tie.Need-same-length-2
 same-length-2 c = search needs
 
--- src/lib.rt:124:1
 same-length-3 : tie.Need-same-length-3
 same-length-3 c = search needs
 
--- src/lib.rt:124:1
 same-length-4 : tie.Need-same-length-4
 same-length-4 c = search needs
 
--- src/lib.rt:124:1
 returns-2 : tie.Need-returns-2
 returns-2 c =
     let a = c .before .before .before .before .before .before .before .before .before .before .before .before .before .before .before .before .before .before .before .before .before .before .before .before .before .before .before .before .before .before .before .before .before .before .args in

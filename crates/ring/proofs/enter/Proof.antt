@@ -10,17 +10,17 @@ use Rattle.motion.specs.Tables.{onVertices}
 use Rattle.motion.specs.World.{worldIn, madeAll}
 use Rattle.motion.specs.Coupling.{Listed}
 use Rattle.motion.specs.Across.{arrangement-length}
-use Rattle.circle.specs.Turns.{turnAt, turn-step, turn-over, turn-rest, begins-inside, turns-enter, turns-fit}
-use Rattle.circle.specs.Steps.{goesOn, goes-alone, turn-next}
+use Rattle.turns.specs.Turns.{turnAt, turn-step, turn-over, turn-rest, begins-inside, turns-enter, turns-fit}
+use Rattle.turns.specs.Steps.{goesOn, goes-alone, turn-next}
 use Rattle.ring.proofs.enter.Statement.{statement}
 use Rattle.ring.proofs.enter.Tie as tie
 use Rattle.ring.proofs.enter.Reads as reads
 use Rattle.ring.proofs.enter.Lts as lts
 use Rattle.circle.proofs.places.next.Reads as next-reads
 use Rattle.circle.proofs.pushing.push.Reads as push-reads
-use Rattle.circle.proofs.pushing.step.Reads as step-reads
-use Rattle.circle.proofs.turning.goes_on.Reads as goes-on-reads
-use Rattle.circle.proofs.turning.turn_place.Reads as turn-place-reads
+use Rattle.turns.proofs.turning.step.Reads as step-reads
+use Rattle.turns.proofs.turning.goes_on.Reads as goes-on-reads
+use Rattle.turns.proofs.turning.turn_place.Reads as turn-place-reads
 
 abbrev Inv-loop : tie.InvT-loop
 Inv-loop robots₀ vertices₀ count zone j behind out₀ m count₀ left₀ p₀ robots vertices out count' left p =
@@ -31,15 +31,12 @@ Inv-loop robots₀ vertices₀ count zone j behind out₀ m count₀ left₀ p�
 abbrev μ-loop : tie.MeasureT-loop
 μ-loop robots₀ vertices₀ count zone j behind out₀ m count₀ left₀ p₀ robots vertices out count' left p = left
 
--- src/lib.rt:102:20
 mul-left : tie.Need-mul-left Inv-loop μ-loop
 mul-left c = omega (arith, turns-fit (length (c .before .before .before .before .args .zone .now)) (search needs))
 
--- src/lib.rt:103:9
 turn-place-requires : tie.Need-turn-place-requires Inv-loop μ-loop
 turn-place-requires c κs = search needs
 
--- src/lib.rt:104:5
 loop-holds : tie.Need-loop-holds Inv-loop μ-loop
 loop-holds c =
     let a = c .before .before .before .before .before .before .args in
@@ -52,37 +49,30 @@ loop-holds c =
       c .turn-place .ensures,
     )
 
--- src/lib.rt:106:13
 same-length : tie.Need-same-length Inv-loop μ-loop
 same-length c = search needs
 
--- src/lib.rt:106:13
 same-length-2 : tie.Need-same-length-2 Inv-loop μ-loop
 same-length-2 c = search needs
 
--- src/lib.rt:106:13
 same-length-3 : tie.Need-same-length-3 Inv-loop μ-loop
 same-length-3 c = search needs
 
--- src/lib.rt:106:13
 returns : tie.Need-returns Inv-loop μ-loop
 returns c =
     let a = c .before .before .before .before .before .before .before .before .before .args in
     let o = c .before .before .loop in
     turn-rest (worldIn (o .robots) (o .vertices) (o .count) (o .out)) (onVertices (o .robots)) (a .zone .now) (a .j) (a .behind) (o .left) (c .before .before .before .before .before .before .before .before .before .pre .0 .0) (sym (c .if1 .taken ∙ o .inv .3) ∙ o .inv .5) ∙ o .inv .4
 
--- src/lib.rt:108:9
 sub-left : tie.Need-sub-left Inv-loop μ-loop
 sub-left c = search needs
 
--- src/lib.rt:109:12
 goes-on-requires : tie.Need-goes-on-requires Inv-loop μ-loop
 goes-on-requires c κs =
     let a = c .before .before .before .before .before .before .before .before .before .before .args in
     let o = c .before .before .before .loop in
     begins-inside (onVertices (o .robots)) (a .zone .now) (a .j) (a .behind) (c .before .before .before .before .before .before .before .before .before .before .pre .0 .0) (o .p) (o .inv .5) (λ q. c .before .if1 .left (q ∙ sym (o .inv .3)))
 
--- src/lib.rt:110:13
 step-requires : tie.Need-step-requires Inv-loop μ-loop
 step-requires c κs =
     let a = c .before .before .before .before .before .before .before .before .before .before .before .before .before .before .before .args in
@@ -92,18 +82,15 @@ step-requires c κs =
     let h : o .p < length z = begins-inside s z (a .j) (a .behind) (c .before .before .before .before .before .before .before .before .before .before .before .before .before .before .before .pre .0 .0) (o .p) (o .inv .5) (λ q. c .before .before .before .before .before .before .if1 .left (q ∙ sym (o .inv .3))) in
     (h, goes-alone (arrangementOf s z) (a .j) (a .behind) (o .p) (omega (arith, h, arrangement-length s z)) (o .inv .5) (sym (c .before .before .before .before .goes-on .ensures) ∙ c .before .before .before .if2 .taken))
 
--- src/lib.rt:111:13
 next-requires : tie.Need-next-requires Inv-loop μ-loop
 next-requires c κs =
     let a = c .before .before .before .before .before .before .before .before .before .before .before .before .before .before .before .before .before .before .before .before .before .before .args in
     let o = c .before .before .before .before .before .before .before .before .before .before .before .before .before .before .before .loop in
     omega (arith, o .inv .3, begins-inside (onVertices (o .robots)) (a .zone .now) (a .j) (a .behind) (c .before .before .before .before .before .before .before .before .before .before .before .before .before .before .before .before .before .before .before .before .before .before .pre .0 .0) (o .p) (o .inv .5) (λ q. c .before .before .before .before .before .before .before .before .before .before .before .before .before .if1 .left (q ∙ sym (o .inv .3))))
 
--- src/lib.rt:104:5
 loop-less : tie.Need-loop-less Inv-loop μ-loop
 loop-less c = search needs
 
--- src/lib.rt:104:5
 loop-again : tie.Need-loop-again Inv-loop μ-loop
 loop-again c =
     let a = c .before .before .before .before .before .before .before .before .before .before .before .before .before .before .before .before .before .before .before .before .before .before .before .args in
@@ -122,22 +109,18 @@ loop-again c =
       turn-next w _ z (a .j) (a .behind) (o .p) (c .next .result) M (c .before .before .before .before .before .before .before .before .before .before .before .before .before .before .before .before .before .before .before .before .before .before .before .pre .0 .0) h (o .inv .5) g (c .next .ensures) (c .before .before .before .before .before .before .before .step .ensures),
     )
 
--- src/lib.rt:113:13
 push-requires : tie.Need-push-requires Inv-loop μ-loop
 push-requires c κs =
     let a = c .before .before .before .before .before .before .before .before .before .before .before .before .before .before .before .args in
     let o = c .before .before .before .before .before .before .before .before .loop in
     (begins-inside (onVertices (o .robots)) (a .zone .now) (a .j) (a .behind) (c .before .before .before .before .before .before .before .before .before .before .before .before .before .before .before .pre .0 .0) (o .p) (o .inv .5) (λ q. c .before .before .before .before .before .before .if1 .left (q ∙ sym (o .inv .3))), rw (o .inv .0) (c .before .before .before .before .before .before .before .before .before .before .before .before .before .before .before .pre .1))
 
--- src/lib.rt:114:13
 turn-place-requires-2 : tie.Need-turn-place-requires-2 Inv-loop μ-loop
 turn-place-requires-2 c κs = search needs
 
--- src/lib.rt:104:5
 loop-less-2 : tie.Need-loop-less-2 Inv-loop μ-loop
 loop-less-2 c = search needs
 
--- src/lib.rt:104:5
 loop-again-2 : tie.Need-loop-again-2 Inv-loop μ-loop
 loop-again-2 c =
     let a = c .before .before .before .before .before .before .before .before .before .before .before .before .before .before .before .before .before .before .before .before .before .before .before .before .args in
@@ -153,19 +136,15 @@ loop-again-2 c =
       c .turn-place2 .ensures,
     )
 
--- src/lib.rt:87:1
 same-length-4 : tie.Need-same-length-4 Inv-loop μ-loop
 same-length-4 c = search needs
 
--- src/lib.rt:87:1
 same-length-5 : tie.Need-same-length-5 Inv-loop μ-loop
 same-length-5 c = search needs
 
--- src/lib.rt:87:1
 same-length-6 : tie.Need-same-length-6 Inv-loop μ-loop
 same-length-6 c = search needs
 
--- src/lib.rt:87:1
 returns-2 : tie.Need-returns-2 Inv-loop μ-loop
 returns-2 c =
     let a = c .before .before .before .before .before .before .before .before .args in

@@ -13,26 +13,21 @@ use Rattle.ring.proofs.leave.Reads as reads
 use Rattle.ring.proofs.leave.Lts as lts
 use Rattle.circle.proofs.pushing.push_to.Reads as push-to-reads
 
--- src/lib.rt:67:5
 push-to-requires : tie.Need-push-to-requires
 push-to-requires c κs =
     let a = c .before .before .before .before .before .before .before .args in
     let s = onVertices (a .robots .now) in
     (search needs, (c .before .before .before .before .before .before .before .pre .1 .0, omega (arith, leave-inside (arrangementOf s (a .zone .now)) (a .r .0) (a .j) (c .before .before .before .before .before .before .before .pre .1 .1), arrangement-length s (a .zone .now))))
 
--- src/lib.rt:53:1
 same-length : tie.Need-same-length
 same-length c = search needs
 
--- src/lib.rt:53:1
 same-length-2 : tie.Need-same-length-2
 same-length-2 c = search needs
 
--- src/lib.rt:53:1
 same-length-3 : tie.Need-same-length-3
 same-length-3 c = search needs
 
--- src/lib.rt:53:1
 returns : tie.Need-returns
 returns c =
     let a = c .before .before .before .before .before .before .before .before .before .before .before .before .before .before .args in

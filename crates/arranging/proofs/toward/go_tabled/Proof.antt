@@ -7,10 +7,10 @@ use Rattle.spec.specs.Arrangement.{mv}
 use Rattle.spec.specs.State.{across}
 use Rattle.theory.specs.Basics.Searches.{seek-le}
 use Rattle.motion.specs.World.{worldIn, madeAll}
-use Rattle.motion.specs.Across.{made-more}
+use Rattle.motion.specs.Across.{made-more, made-nothing}
 use Rattle.spec.specs.Clique.{openTarget, cliqueTo}
-use Rattle.arranging.specs.Table.{Tabled, tabled-at, tabled-moved, seek-empty}
-use Rattle.arranging.specs.Toward.{made-nothing, open-moved, open-taken, open-is, to-target, to-room, to-rest, to-none}
+use Rattle.tabling.specs.Table.{Tabled, tabled-at, tabled-moved, seek-empty}
+use Rattle.arranging.specs.Toward.{open-moved, open-taken, open-is, to-target, to-room, to-rest, to-none}
 use Rattle.arranging.proofs.toward.go_tabled.Statement.{statement}
 use Rattle.arranging.proofs.toward.go_tabled.Tie as tie
 

@@ -20,7 +20,7 @@ use Rattle.circle.proofs.pushing.push.Reads as reads
 use Rattle.circle.proofs.pushing.push.Lts as lts
 use Rattle.motion.proofs.make.Reads as make-reads
 use Rattle.motion.proofs.robot_on.Reads as robot-on-reads
-use Rattle.motion.proofs.vertex_at.Reads as vertex-at-reads
+use Rattle.cells.proofs.vertex_at.Reads as vertex-at-reads
 use Rattle.circle.proofs.places.beside.Reads as beside-reads
 use Rattle.circle.proofs.places.next.Reads as next-reads
 
@@ -40,44 +40,35 @@ Inv-loop2 robots₀ vertices₀ count zone p out₀ m first at k₀ end count₀
 abbrev μ-loop2 : tie.MeasureT-loop2
 μ-loop2 robots₀ vertices₀ count zone p out₀ m first at k₀ end count₀ to₀ robots vertices out k count' to = k
 
--- src/pushing.rt:36:34
 vertex-at-requires : tie.Need-vertex-at-requires Inv-loop μ-loop Inv-loop2 μ-loop2
 vertex-at-requires c κs = search needs
 
--- src/pushing.rt:36:9
 robot-on-requires : tie.Need-robot-on-requires Inv-loop μ-loop Inv-loop2 μ-loop2
 robot-on-requires c κs = search needs
 
--- src/pushing.rt:39:9
 loop-holds : tie.Need-loop-holds Inv-loop μ-loop Inv-loop2 μ-loop2
 loop-holds c =
     let a = c .before .before .before .before .before .before .before .args in
     (refl, search needs, sym (wrap-in (length (a .zone .now)) (a .p) (search needs)), omega arith)
 
--- src/pushing.rt:43:13
 vertex-at-requires-2 : tie.Need-vertex-at-requires-2 Inv-loop μ-loop Inv-loop2 μ-loop2
 vertex-at-requires-2 c κs = search needs
 
--- src/pushing.rt:44:13
 robot-on-requires-2 : tie.Need-robot-on-requires-2 Inv-loop μ-loop Inv-loop2 μ-loop2
 robot-on-requires-2 c κs = search needs
 
--- src/pushing.rt:48:9
 next-requires : tie.Need-next-requires Inv-loop μ-loop Inv-loop2 μ-loop2
 next-requires c κs =
     let a = c .before .before .before .before .before .before .before .before .before .before .before .before .before .before .args in
     let o = c .before .before .before .before .before .before .loop in
     omega (arith, wrap-under (length (a .zone .now)) (a .p) (o .k) (search needs) (omega arith))
 
--- src/pushing.rt:49:9
 add-k : tie.Need-add-k Inv-loop μ-loop Inv-loop2 μ-loop2
 add-k c = search needs
 
--- src/pushing.rt:39:9
 loop-less : tie.Need-loop-less Inv-loop μ-loop Inv-loop2 μ-loop2
 loop-less c = search needs
 
--- src/pushing.rt:39:9
 loop-again : tie.Need-loop-again Inv-loop μ-loop Inv-loop2 μ-loop2
 loop-again c =
     let a = c .before .before .before .before .before .before .before .before .before .before .before .before .before .before .before .args in
@@ -93,7 +84,6 @@ loop-again c =
       run-on s z (a .p) h (o .k) (c .before .before .before .robot-on2 .result .0) l e (c .before .if2 .left) ∙ o .inv .3,
     )
 
--- src/pushing.rt:53:5
 loop2-holds : tie.Need-loop2-holds Inv-loop μ-loop Inv-loop2 μ-loop2
 loop2-holds c =
     let a = c .before .before .before .before .before .before .before .before .before .args in
@@ -112,38 +102,30 @@ loop2-holds c =
     (refl, refl, refl, refl, o .inv .1, omega arith, w .6 ∙ o .inv .2, made-none _ _ (ap (across z) (push-none s z (a .p) (o .k) (omega arith)) ∙ across-nil z), unmoved-all s z (a .p) (o .k)))
     (c .if1 .came)
 
--- src/pushing.rt:54:13
 beside-requires : tie.Need-beside-requires Inv-loop μ-loop Inv-loop2 μ-loop2
 beside-requires c κs =
     let a = c .before .before .before .before .before .before .before .before .before .before .before .args in
     let o = c .before .loop2 in
     omega (arith, wrap-under (length (a .zone .now)) (a .p) (o .k) (search needs) (omega arith))
 
--- src/pushing.rt:55:13
 vertex-at-requires-3 : tie.Need-vertex-at-requires-3 Inv-loop μ-loop Inv-loop2 μ-loop2
 vertex-at-requires-3 c κs = search needs
 
--- src/pushing.rt:56:13
 vertex-at-requires-4 : tie.Need-vertex-at-requires-4 Inv-loop μ-loop Inv-loop2 μ-loop2
 vertex-at-requires-4 c κs = search needs
 
--- src/pushing.rt:57:13
 robot-on-requires-3 : tie.Need-robot-on-requires-3 Inv-loop μ-loop Inv-loop2 μ-loop2
 robot-on-requires-3 c κs = search needs
 
--- src/pushing.rt:58:9
 sub-k : tie.Need-sub-k Inv-loop μ-loop Inv-loop2 μ-loop2
 sub-k c = search needs
 
--- src/pushing.rt:62:9
 make-requires : tie.Need-make-requires Inv-loop μ-loop Inv-loop2 μ-loop2
 make-requires c κs = search needs
 
--- src/pushing.rt:53:5
 loop2-less : tie.Need-loop2-less Inv-loop μ-loop Inv-loop2 μ-loop2
 loop2-less c = search needs
 
--- src/pushing.rt:53:5
 loop2-again : tie.Need-loop2-again Inv-loop μ-loop Inv-loop2 μ-loop2
 loop2-again c =
     let a = c .before .before .before .before .before .before .before .before .before .before .before .before .before .before .before .before .before .before .before .before .before .before .before .before .before .before .before .args in
@@ -178,19 +160,15 @@ loop2-again c =
       unmoved-behind s (worldIn (o .robots) (o .vertices) (o .count) (o .out)) _ z _ (a .p) k (c .before .before .before .before .before .before .before .before .before .before .if3 .r .0) _ _ (c .before .before .before .before .before .before .before .before .before .before .before .before .before .before .before .before .before .before .before .before .before .before .before .before .before .before .before .pre .1) h l v t (c .before .before .before .before .before .before .make .ensures) (rw (sym i) (o .inv .8)),
     )
 
--- src/pushing.rt:23:1
 same-length : tie.Need-same-length Inv-loop μ-loop Inv-loop2 μ-loop2
 same-length c = search needs
 
--- src/pushing.rt:23:1
 same-length-2 : tie.Need-same-length-2 Inv-loop μ-loop Inv-loop2 μ-loop2
 same-length-2 c = search needs
 
--- src/pushing.rt:23:1
 same-length-3 : tie.Need-same-length-3 Inv-loop μ-loop Inv-loop2 μ-loop2
 same-length-3 c = search needs
 
--- src/pushing.rt:23:1
 returns : tie.Need-returns Inv-loop μ-loop Inv-loop2 μ-loop2
 returns c =
     let a = c .before .before .before .before .before .before .before .before .before .before .before .args in

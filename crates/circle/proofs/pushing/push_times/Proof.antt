@@ -25,27 +25,21 @@ Inv-loop robots₀ vertices₀ count zone p n out₀ count₀ at₀ left₀ robo
 abbrev μ-loop : tie.MeasureT-loop
 μ-loop robots₀ vertices₀ count zone p n out₀ count₀ at₀ left₀ robots vertices out count' at left = left
 
--- src/pushing.rt:85:5
 loop-holds : tie.Need-loop-holds Inv-loop μ-loop
 loop-holds c = (refl, refl, refl, search needs, refl)
 
--- src/pushing.rt:86:9
 push-requires : tie.Need-push-requires Inv-loop μ-loop
 push-requires c κs = (c .before .before .before .before .loop .inv .3, rw (c .before .before .before .before .loop .inv .0) (c .before .before .before .before .before .before .before .before .before .pre .1))
 
--- src/pushing.rt:87:9
 next-requires : tie.Need-next-requires Inv-loop μ-loop
 next-requires c κs = search needs
 
--- src/pushing.rt:88:9
 sub-left : tie.Need-sub-left Inv-loop μ-loop
 sub-left c = search needs
 
--- src/pushing.rt:85:5
 loop-less : tie.Need-loop-less Inv-loop μ-loop
 loop-less c = search needs
 
--- src/pushing.rt:85:5
 loop-again : tie.Need-loop-again Inv-loop μ-loop
 loop-again c =
     let a = c .before .before .before .before .before .before .before .before .before .before .before .before .before .before .before .before .before .args in
@@ -60,19 +54,15 @@ loop-again c =
       pushes-step (worldIn (o .robots) (o .vertices) (o .count) (o .out)) _ z (o .at) (c .next .result) (o .left) M h (c .before .before .before .before .before .before .before .before .before .before .before .loop-test .taken) (c .next .ensures) (c .before .before .before .before .before .before .before .push .ensures) ∙ o .inv .4,
     )
 
--- src/pushing.rt:69:1
 same-length : tie.Need-same-length Inv-loop μ-loop
 same-length c = search needs
 
--- src/pushing.rt:69:1
 same-length-2 : tie.Need-same-length-2 Inv-loop μ-loop
 same-length-2 c = search needs
 
--- src/pushing.rt:69:1
 same-length-3 : tie.Need-same-length-3 Inv-loop μ-loop
 same-length-3 c = search needs
 
--- src/pushing.rt:69:1
 returns : tie.Need-returns Inv-loop μ-loop
 returns c =
     let a = c .before .before .before .before .before .before .args in

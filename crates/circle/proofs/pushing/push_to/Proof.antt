@@ -11,35 +11,28 @@ use Rattle.circle.proofs.pushing.push_to.Statement.{statement}
 use Rattle.circle.proofs.pushing.push_to.Tie as tie
 use Rattle.circle.proofs.pushing.push_to.Reads as reads
 use Rattle.circle.proofs.pushing.push_to.Lts as lts
-use Rattle.motion.proofs.place_of.Reads as place-of-reads
+use Rattle.cells.proofs.place_of.Reads as place-of-reads
 use Rattle.circle.proofs.places.distance.Reads as distance-reads
 use Rattle.circle.proofs.pushing.push_times.Reads as push-times-reads
 
--- src/pushing.rt:108:9
 place-of-requires : tie.Need-place-of-requires
 place-of-requires c κs = search needs
 
--- src/pushing.rt:109:9
 distance-requires : tie.Need-distance-requires
 distance-requires c κs = search needs
 
--- src/pushing.rt:110:5
 push-times-requires : tie.Need-push-times-requires
 push-times-requires c κs = search needs
 
--- src/pushing.rt:94:1
 same-length : tie.Need-same-length
 same-length c = search needs
 
--- src/pushing.rt:94:1
 same-length-2 : tie.Need-same-length-2
 same-length-2 c = search needs
 
--- src/pushing.rt:94:1
 same-length-3 : tie.Need-same-length-3
 same-length-3 c = search needs
 
--- src/pushing.rt:94:1
 returns : tie.Need-returns
 returns c =
     let a = c .before .before .before .before .before .before .before .before .before .before .before .before .before .before .before .before .before .args in

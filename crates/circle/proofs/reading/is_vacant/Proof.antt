@@ -18,37 +18,30 @@ Inv-loop robots zone i₀ i = (i ≤ length zone) × (vacant (drop i (arrangemen
 abbrev μ-loop : tie.MeasureT-loop
 μ-loop robots zone i₀ i = length zone - i
 
--- src/reading.rt:24:5
 loop-holds : tie.Need-loop-holds Inv-loop μ-loop
 loop-holds c = (search needs, refl)
 
--- src/reading.rt:25:13
 robot-at-requires : tie.Need-robot-at-requires Inv-loop μ-loop
 robot-at-requires c κs = search needs
 
--- src/reading.rt:27:13
 returns : tie.Need-returns Inv-loop μ-loop
 returns c =
     let a = c .before .before .before .before .before .before .before .args in
     let o = c .before .before .before .before .loop in
     vacant-stops (onVertices (a .robots .now)) (a .zone .now) (o .i) (c .before .before .robot-at .result .0) (search needs) (c .before .before .robot-at .ensures) (c .if1 .taken) ∙ o .inv .1
 
--- src/reading.rt:29:9
 add-i : tie.Need-add-i Inv-loop μ-loop
 add-i c = search needs
 
--- src/reading.rt:24:5
 loop-less : tie.Need-loop-less Inv-loop μ-loop
 loop-less c = search needs
 
--- src/reading.rt:24:5
 loop-again : tie.Need-loop-again Inv-loop μ-loop
 loop-again c =
     let a = c .before .before .before .before .before .before .before .args in
     let o = c .before .before .before .before .loop in
     (search needs, vacant-on (onVertices (a .robots .now)) (a .zone .now) (o .i) (c .before .before .robot-at .result .0) (search needs) (c .before .before .robot-at .ensures) (c .if1 .left) ∙ o .inv .1)
 
--- src/reading.rt:20:1
 returns-2 : tie.Need-returns-2 Inv-loop μ-loop
 returns-2 c =
     let a = c .before .before .before .before .args in

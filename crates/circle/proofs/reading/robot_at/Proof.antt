@@ -7,17 +7,14 @@ use Rattle.circle.proofs.reading.robot_at.Tie as tie
 use Rattle.circle.proofs.reading.robot_at.Reads as reads
 use Rattle.circle.proofs.reading.robot_at.Lts as lts
 use Rattle.motion.proofs.robot_on.Reads as robot-on-reads
-use Rattle.motion.proofs.vertex_at.Reads as vertex-at-reads
+use Rattle.cells.proofs.vertex_at.Reads as vertex-at-reads
 
--- src/reading.rt:15:9
 vertex-at-requires : tie.Need-vertex-at-requires
 vertex-at-requires c κs = search needs
 
--- src/reading.rt:16:5
 robot-on-requires : tie.Need-robot-on-requires
 robot-on-requires c κs = search needs
 
--- src/reading.rt:12:1
 returns : tie.Need-returns
 returns c = c .robot-on .ensures ∙ ap (robotOn (onVertices (c .before .before .before .before .args .robots .now))) (c .before .vertex-at .ensures)
 

@@ -9,27 +9,21 @@ use Rattle.clique.proofs.ending.can_end.Reads as reads
 use Rattle.clique.proofs.ending.can_end.Lts as lts
 use Rattle.clique.proofs.ending.can_end_in.Reads as can-end-in-reads
 
--- src/ending.rt:37:37
 array-borrow-prefix-cells : tie.Need-array-borrow-prefix-cells
 array-borrow-prefix-cells c = search needs
 
--- src/ending.rt:37:37
 slice-aggregate-can-end-in : tie.Need-slice-aggregate-can-end-in
 slice-aggregate-can-end-in c = sym (cells-length (length (c .before .before .before .before .args .zone .now)) (c .before .before .before .before .pre))
 
--- src/ending.rt:37:54
 array-borrow-prefix-goal : tie.Need-array-borrow-prefix-goal
 array-borrow-prefix-goal c = search needs
 
--- src/ending.rt:37:54
 slice-aggregate-can-end-in-2 : tie.Need-slice-aggregate-can-end-in-2
 slice-aggregate-can-end-in-2 c = sym (cells-length (length (c .before .before .before .before .before .args .zone .now)) (c .before .before .before .before .before .pre))
 
--- src/ending.rt:37:5
 can-end-in-requires : tie.Need-can-end-in-requires
 can-end-in-requires c κs = let e = cells-length (length (c .before .before .before .before .before .args .zone .now)) (c .before .before .before .before .before .pre) in (e, e)
 
--- src/ending.rt:30:1
 returns : tie.Need-returns
 returns c = search needs
 

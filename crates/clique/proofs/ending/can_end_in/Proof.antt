@@ -3,7 +3,7 @@ use mathlib.Core.Path.{ap₂, sym, _∙_}
 use Rattle.spec.specs.State.{arrangementOf}
 use Rattle.motion.specs.Tables.{onVertices}
 use Rattle.motion.specs.Across.{arrangement-length}
-use Rattle.motion.specs.Cells.{overlaid-all}
+use Rattle.cells.specs.Cells.{overlaid-all}
 use Rattle.comparing.specs.Comparing.{can-end-full, can-end-other}
 use Rattle.spec.specs.Outcome.{sameList}
 use Rattle.spec.specs.Clique.{sameRobots}
@@ -14,34 +14,27 @@ use Rattle.clique.proofs.ending.can_end_in.Reads as reads
 use Rattle.clique.proofs.ending.can_end_in.Lts as lts
 use Rattle.comparing.proofs.same_cells.Reads as same-cells-reads
 use Rattle.comparing.proofs.same_robots.Reads as same-robots-reads
-use Rattle.motion.proofs.cells_of.Reads as cells-of-reads
-use Rattle.motion.proofs.is_full.Reads as is-full-reads
+use Rattle.cells.proofs.cells_of.Reads as cells-of-reads
+use Rattle.cells.proofs.is_full.Reads as is-full-reads
 
--- src/ending.rt:20:5
 cells-of-requires : tie.Need-cells-of-requires
 cells-of-requires c κs = search needs
 
--- src/ending.rt:21:5
 cells-of-requires-2 : tie.Need-cells-of-requires-2
 cells-of-requires-2 c κs = search needs
 
--- src/ending.rt:22:9
 is-full-requires : tie.Need-is-full-requires
 is-full-requires c κs = search needs
 
--- src/ending.rt:24:9
 same-cells-requires : tie.Need-same-cells-requires
 same-cells-requires c κs = search needs
 
--- src/ending.rt:24:9
 same-length : tie.Need-same-length
 same-length c = search needs
 
--- src/ending.rt:24:9
 same-length-2 : tie.Need-same-length-2
 same-length-2 c = search needs
 
--- src/ending.rt:24:9
 returns : tie.Need-returns
 returns c =
     let p = c .before .before .before .before .before .before .before .before .before .before .before .before .before .before .before .before .before .before .args in
@@ -52,19 +45,15 @@ returns c =
     let h = c .before .before .before .before .before .before .before .cells-of2 .ensures ∙ overlaid-all g (p .goal .now) (arrangement-length (onVertices (p .goals .now)) z ∙ sym (c .before .before .before .before .before .before .before .before .before .before .before .before .before .before .before .before .before .before .pre .1)) in
     c .same-cells .ensures ∙ ap₂ sameList f h ∙ can-end-full a g (sym (c .before .before .before .if1 .taken) ∙ c .before .before .before .before .is-full .ensures)
 
--- src/ending.rt:26:5
 same-robots-requires : tie.Need-same-robots-requires
 same-robots-requires c κs = search needs
 
--- src/ending.rt:16:1
 same-length-3 : tie.Need-same-length-3
 same-length-3 c = search needs
 
--- src/ending.rt:16:1
 same-length-4 : tie.Need-same-length-4
 same-length-4 c = search needs
 
--- src/ending.rt:16:1
 returns-2 : tie.Need-returns-2
 returns-2 c =
     let p = c .before .before .before .before .before .before .before .before .before .before .before .before .before .before .before .before .before .before .args in

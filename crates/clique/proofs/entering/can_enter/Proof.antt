@@ -8,35 +8,28 @@ use Rattle.clique.proofs.entering.can_enter.Statement.{statement}
 use Rattle.clique.proofs.entering.can_enter.Tie as tie
 use Rattle.clique.proofs.entering.can_enter.Reads as reads
 use Rattle.clique.proofs.entering.can_enter.Lts as lts
-use Rattle.clique.proofs.counting.last_free.Reads as last-free-reads
+use Rattle.vacating.proofs.last_free.Reads as last-free-reads
 use Rattle.clique.proofs.entering.names_at.Reads as names-at-reads
 use Rattle.clique.proofs.entering.names_inside.Reads as names-inside-reads
 
--- src/entering.rt:112:9
 returns : tie.Need-returns
 returns c = enter-behind (arrangementOf (onVertices (c .before .before .before .before .args .robots .now)) (c .before .before .before .before .args .zone .now)) (c .before .before .before .before .args .r .0) (c .before .before .before .before .args .j) (c .before .before .before .before .args .behind) (c .before .before .before .before .args .list .now) (c .if1 .taken)
 
--- src/entering.rt:114:9
 last-free-requires : tie.Need-last-free-requires
 last-free-requires c κs = search needs
 
--- src/entering.rt:116:13
 names-at-requires : tie.Need-names-at-requires
 names-at-requires c κs = search needs
 
--- src/entering.rt:118:13
 names-inside-requires : tie.Need-names-inside-requires
 names-inside-requires c κs = search needs
 
--- src/entering.rt:118:13
 returns-2 : tie.Need-returns-2
 returns-2 c = c .names-inside .ensures ∙ enter-named (arrangementOf (onVertices (c .before .before .before .before .before .before .before .before .before .args .robots .now)) (c .before .before .before .before .before .before .before .before .before .args .zone .now)) (c .before .before .before .before .before .before .before .before .before .args .r .0) (c .before .before .before .before .before .before .before .before .before .args .j) (c .before .before .before .before .before .before .before .before .before .args .behind) (c .before .before .before .before .before .before .before .before .before .args .list .now) (c .before .before .before .before .before .if1 .left) (sym (c .before .before .before .if2 .taken) ∙ c .before .before .before .before .last-free .ensures) (sym (c .before .if3 .taken) ∙ c .before .before .names-at .ensures)
 
--- src/entering.rt:120:9
 returns-3 : tie.Need-returns-3
 returns-3 c = enter-unnamed (arrangementOf (onVertices (c .before .before .before .before .before .before .before .before .args .robots .now)) (c .before .before .before .before .before .before .before .before .args .zone .now)) (c .before .before .before .before .before .before .before .before .args .r .0) (c .before .before .before .before .before .before .before .before .args .j) (c .before .before .before .before .before .before .before .before .args .behind) (c .before .before .before .before .before .before .before .before .args .list .now) (c .before .before .before .before .if1 .left) (sym (c .before .before .if2 .taken) ∙ c .before .before .before .last-free .ensures) (sym (c .if3 .left) ∙ c .before .names-at .ensures)
 
--- src/entering.rt:107:1
 returns-4 : tie.Need-returns-4
 returns-4 c = enter-free (arrangementOf (onVertices (c .before .before .before .before .before .before .args .robots .now)) (c .before .before .before .before .before .before .args .zone .now)) (c .before .before .before .before .before .before .args .r .0) (c .before .before .before .before .before .before .args .j) (c .before .before .before .before .before .before .args .behind) (c .before .before .before .before .before .before .args .list .now) (c .before .before .if1 .left) (sym (c .if2 .left) ∙ c .before .last-free .ensures)
 

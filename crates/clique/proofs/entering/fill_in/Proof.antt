@@ -8,9 +8,9 @@ use Rattle.spec.specs.State.{arrangementOf, across}
 use Rattle.motion.specs.Tables.{onVertices}
 use Rattle.motion.specs.World.{worldIn, madeAll}
 use Rattle.motion.specs.Across.{arrangement-length}
-use Rattle.motion.specs.Cells.{overlaid-all}
+use Rattle.cells.specs.Cells.{overlaid-all}
 use Rattle.clique.specs.Entering.{named-cells, cells-named}
-use Rattle.arranging.specs.Table.{distinct-of}
+use Rattle.tabling.specs.Table.{distinct-of}
 use native.Mathlib.Omega.{arith}
 use Rattle.spec.specs.Clique.{cliqueTo}
 use Rattle.clique.proofs.entering.fill_in.Statement.{statement}

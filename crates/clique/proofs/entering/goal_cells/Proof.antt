@@ -4,7 +4,7 @@ use mathlib.Core.Path.{ap, sym, _∙_}
 use mathlib.Core.List.{List, map}
 use lib.ListN.{set, length-map}
 use Rattle.spec.specs.State.{cellOf}
-use Rattle.motion.specs.Cells.{overlaid-all}
+use Rattle.cells.specs.Cells.{overlaid-all}
 use Rattle.clique.proofs.entering.goal_cells.Statement.{statement}
 use Rattle.clique.proofs.entering.goal_cells.Tie as tie
 

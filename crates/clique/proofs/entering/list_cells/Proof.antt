@@ -5,9 +5,9 @@ use mathlib.Core.Path.{_≡_, refl, _∙_}
 use mathlib.Core.List.{_++_, map}
 use lib.ListN.{length, take, drop, length-set, length-map}
 use Rattle.spec.specs.State.{cellOf}
-use Rattle.motion.specs.Cells.{overlaid}
+use Rattle.cells.specs.Cells.{overlaid}
 use Rattle.clique.specs.Entering.{map-next}
-use Rattle.motion.specs.Cells.{overlaid-step, overlaid-end}
+use Rattle.cells.specs.Cells.{overlaid-step, overlaid-end}
 use Rattle.clique.proofs.entering.list_cells.Statement.{statement}
 use Rattle.clique.proofs.entering.list_cells.Tie as tie
 

@@ -9,27 +9,21 @@ use Rattle.clique.proofs.entering.names_inside.Reads as reads
 use Rattle.clique.proofs.entering.names_inside.Lts as lts
 use Rattle.clique.proofs.entering.names_inside_in.Reads as names-inside-in-reads
 
--- src/entering.rt:103:44
 array-borrow-prefix-cells : tie.Need-array-borrow-prefix-cells
 array-borrow-prefix-cells c = search needs
 
--- src/entering.rt:103:44
 slice-aggregate-names-inside-in : tie.Need-slice-aggregate-names-inside-in
 slice-aggregate-names-inside-in c = sym (cells-length (length (c .before .before .before .before .args .zone .now)) (c .before .before .before .before .pre .0))
 
--- src/entering.rt:103:61
 array-borrow-prefix-goal : tie.Need-array-borrow-prefix-goal
 array-borrow-prefix-goal c = search needs
 
--- src/entering.rt:103:61
 slice-aggregate-names-inside-in-2 : tie.Need-slice-aggregate-names-inside-in-2
 slice-aggregate-names-inside-in-2 c = sym (cells-length (length (c .before .before .before .before .before .args .list .now)) (c .before .before .before .before .before .pre .1))
 
--- src/entering.rt:103:5
 names-inside-in-requires : tie.Need-names-inside-in-requires
 names-inside-in-requires c κs = (cells-length (length (c .before .before .before .before .before .args .zone .now)) (c .before .before .before .before .before .pre .0), cells-length (length (c .before .before .before .before .before .args .list .now)) (c .before .before .before .before .before .pre .1))
 
--- src/entering.rt:95:1
 returns : tie.Need-returns
 returns c = search needs
 

@@ -3,7 +3,7 @@ use mathlib.Core.Path.{ap₂, sym, _∙_}
 use Rattle.spec.specs.State.{arrangementOf}
 use Rattle.motion.specs.Tables.{onVertices}
 use Rattle.motion.specs.Across.{arrangement-length}
-use Rattle.motion.specs.Cells.{overlaid-all}
+use Rattle.cells.specs.Cells.{overlaid-all}
 use Rattle.clique.specs.Entering.{named-cells, named-nobody}
 use Rattle.spec.specs.Clique.{sameRobots}
 use Rattle.theory.specs.Basics.Tests.{false-of}
@@ -15,33 +15,26 @@ use Rattle.clique.proofs.entering.names_inside_in.Lts as lts
 use Rattle.comparing.proofs.same_robots.Reads as same-robots-reads
 use Rattle.clique.proofs.entering.goal_cells.Reads as goal-cells-reads
 use Rattle.clique.proofs.entering.names_robots.Reads as names-robots-reads
-use Rattle.motion.proofs.cells_of.Reads as cells-of-reads
+use Rattle.cells.proofs.cells_of.Reads as cells-of-reads
 
--- src/entering.rt:85:9
 names-robots-requires : tie.Need-names-robots-requires
 names-robots-requires c κs = search needs
 
--- src/entering.rt:87:9
 cells-of-requires : tie.Need-cells-of-requires
 cells-of-requires c κs = search needs
 
--- src/entering.rt:88:9
 goal-cells-requires : tie.Need-goal-cells-requires
 goal-cells-requires c κs = search needs
 
--- src/entering.rt:89:9
 same-robots-requires : tie.Need-same-robots-requires
 same-robots-requires c κs = search needs
 
--- src/entering.rt:89:9
 same-length : tie.Need-same-length
 same-length c = search needs
 
--- src/entering.rt:89:9
 same-length-2 : tie.Need-same-length-2
 same-length-2 c = search needs
 
--- src/entering.rt:89:9
 returns : tie.Need-returns
 returns c =
     let p = c .before .before .before .before .before .before .before .before .before .before .before .before .before .before .before .before .before .before .args in
@@ -51,7 +44,6 @@ returns c =
     (c .before .before .before .before .before .before .before .before .before .cells-of .ensures ∙ overlaid-all (arrangementOf (onVertices (p .robots .now)) z) (p .cells .now) (arrangement-length (onVertices (p .robots .now)) z ∙ sym (c .before .before .before .before .before .before .before .before .before .before .before .before .before .before .before .before .before .before .pre .0)))
     (c .before .before .before .before .before .goal-cells .ensures ∙ named-cells (p .list .now) (p .j) (c .before .before .before .before .before .before .before .before .before .before .before .before .names-robots .ensures .0 (c .before .before .before .before .before .before .before .before .before .before .before .if1 .taken)))
 
--- src/entering.rt:74:1
 returns-2 : tie.Need-returns-2
 returns-2 c =
     let p = c .before .before .before .before .before .before .before .args in

@@ -5,7 +5,7 @@ use lib.ListN.{length, take, replicate}
 use lib.Seq.{length-take-le}
 use Rattle.comparing.specs.Comparing.{cells-length}
 use Rattle.orders.specs.Orders.{listMet}
-use Rattle.stepping.specs.Held.{heldPart}
+use Rattle.walking.specs.Held.{heldPart}
 use Rattle.configurations.specs.Entering.{clique-named, clique-fills}
 use Rattle.configurations.proofs.entering.can_fill.Statement.{statement}
 use Rattle.configurations.proofs.entering.can_fill.Tie as tie

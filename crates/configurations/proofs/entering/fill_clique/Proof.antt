@@ -5,11 +5,11 @@ use Prim.Native.Nat.{ℕ, _+_}
 use Rattle.wire.specs.Payload.{payload, held-length}
 use lib.ListN.{take, drop, length, length-drop}
 use lib.Seq.{length-take-le}
-use Rattle.stepping.specs.Held.{heldPart}
+use Rattle.walking.specs.Held.{heldPart}
 use Rattle.rosters.specs.Lists.{fill-first, put-as}
 use Rattle.configurations.proofs.entering.fill_clique.Statement.{statement}
 use Rattle.configurations.proofs.entering.fill_clique.Tie as tie
-use Rattle.stepping.proofs.follow.copy_list.Reads as copy-list-reads
+use Rattle.walking.proofs.copy_list.Reads as copy-list-reads
 
 slice-relend-prefix-copy-list : tie.Need-slice-relend-prefix-copy-list
 slice-relend-prefix-copy-list c = search needs

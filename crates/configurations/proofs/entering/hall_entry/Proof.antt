@@ -8,7 +8,7 @@ use Rattle.configurations.specs.Entering.{found-at, found-not, hall-name
 use Rattle.configurations.proofs.entering.hall_entry.Statement.{statement}
 use Rattle.configurations.proofs.entering.hall_entry.Tie as tie
 use Rattle.configurations.proofs.entering.entry_index.Reads as entry-index-reads
-use Rattle.lineup.proofs.reach.has_room.Reads as has-room-reads
+use Rattle.reaching.proofs.reach.has_room.Reads as has-room-reads
 
 entry-index-requires : tie.Need-entry-index-requires
 entry-index-requires c κs = search needs

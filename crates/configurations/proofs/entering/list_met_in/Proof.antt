@@ -7,7 +7,7 @@ use Rattle.orders.specs.Orders.{listMet}
 use Rattle.configurations.proofs.entering.list_met_in.Statement.{statement}
 use Rattle.configurations.proofs.entering.list_met_in.Tie as tie
 use Rattle.configurations.proofs.entering.list_met.Reads as list-met-reads
-use Rattle.stepping.proofs.follow.copy_list.Reads as copy-list-reads
+use Rattle.walking.proofs.copy_list.Reads as copy-list-reads
 
 copy-list-requires : tie.Need-copy-list-requires
 copy-list-requires c κs = search needs

@@ -10,7 +10,7 @@ use Rattle.galzpuna.proofs.services.refuse.Reads as refuse-reads
 use Rattle.motion.proofs.standing.Reads as standing-reads
 use Rattle.drawing.proofs.draw_moves.Reads as draw-moves-reads
 use Rattle.answers.proofs.deliver.Reads as deliver-reads
-use Rattle.wire.proofs.put_word.Reads as put-word-reads
+use Rattle.writer.proofs.put_word.Reads as put-word-reads
 
 open-list-requires : tie.Need-open-list-requires
 open-list-requires c κs = c .before .before .before .before .pre

@@ -4,7 +4,7 @@ use Rattle.galzpuna.specs.Plans.{judge-refused, judge-cleared}
 use borrow.Author.Needs.{needs}
 use Rattle.galzpuna.proofs.services.galzpuna_judge.Statement.{statement}
 use Rattle.galzpuna.proofs.services.galzpuna_judge.Tie as tie
-use Rattle.opening.proofs.files.judge_files.Reads as judge-files-reads
+use Rattle.planning.proofs.plans.judge_files.Reads as judge-files-reads
 
 judge-files-requires : tie.Need-judge-files-requires
 judge-files-requires c κs = search needs

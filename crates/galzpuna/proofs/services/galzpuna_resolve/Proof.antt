@@ -6,10 +6,10 @@ use Rattle.galzpuna.proofs.services.galzpuna_resolve.Statement.{stateme
 use Rattle.galzpuna.proofs.services.galzpuna_resolve.Tie as tie
 use Rattle.galzpuna.proofs.services.galzpuna_resolve.Reads as reads
 use Rattle.galzpuna.proofs.services.galzpuna_resolve.Lts as lts
-use Rattle.opening.proofs.files.resolve_files.Reads as resolve-files-reads
+use Rattle.planning.proofs.plans.resolve_files.Reads as resolve-files-reads
 use Rattle.galzpuna.proofs.services.refuse.Reads as refuse-reads
 use Rattle.answers.proofs.deliver.Reads as deliver-reads
-use Rattle.wire.proofs.put_word.Reads as put-word-reads
+use Rattle.writer.proofs.put_word.Reads as put-word-reads
 
 resolve-files-requires : tie.Need-resolve-files-requires
 resolve-files-requires c κs = search needs

@@ -10,7 +10,7 @@ use Rattle.opening.proofs.files.open_list.Reads as open-list-reads
 use Rattle.galzpuna.proofs.services.refuse.Reads as refuse-reads
 use Rattle.timing.proofs.write_rounds.Reads as write-rounds-reads
 use Rattle.answers.proofs.deliver.Reads as deliver-reads
-use Rattle.wire.proofs.put_word.Reads as put-word-reads
+use Rattle.writer.proofs.put_word.Reads as put-word-reads
 
 open-list-requires : tie.Need-open-list-requires
 open-list-requires c κs = c .before .before .before .before .pre

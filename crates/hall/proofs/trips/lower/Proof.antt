@@ -13,7 +13,7 @@ use Rattle.hall.proofs.trips.lower.Tie as tie
 use Rattle.hall.proofs.trips.lower.Reads as reads
 use Rattle.hall.proofs.trips.lower.Lts as lts
 use Rattle.motion.proofs.make.Reads as make-reads
-use Rattle.motion.proofs.vertex_at.Reads as vertex-at-reads
+use Rattle.cells.proofs.vertex_at.Reads as vertex-at-reads
 
 abbrev Inv-loop : tie.InvT-loop
 Inv-loop robots₀ vertices₀ count zone r from to out₀ made₀ stop at₀ robots vertices out made at =
@@ -24,35 +24,27 @@ Inv-loop robots₀ vertices₀ count zone r from to out₀ made₀ stop at₀ ro
 abbrev μ-loop : tie.MeasureT-loop
 μ-loop robots₀ vertices₀ count zone r from to out₀ made₀ stop at₀ robots vertices out made at = at - to
 
--- src/trips.rt:29:5
 loop-holds : tie.Need-loop-holds Inv-loop μ-loop
 loop-holds c = (refl, search needs, refl, refl, refl)
 
--- src/trips.rt:30:13
 vertex-at-requires : tie.Need-vertex-at-requires Inv-loop μ-loop
 vertex-at-requires c κs = search needs
 
--- src/trips.rt:31:33
 sub-vertex-at : tie.Need-sub-vertex-at Inv-loop μ-loop
 sub-vertex-at c = search needs
 
--- src/trips.rt:31:13
 vertex-at-requires-2 : tie.Need-vertex-at-requires-2 Inv-loop μ-loop
 vertex-at-requires-2 c κs = search needs
 
--- src/trips.rt:32:9
 make-requires : tie.Need-make-requires Inv-loop μ-loop
 make-requires c κs = search needs
 
--- src/trips.rt:33:9
 sub-at : tie.Need-sub-at Inv-loop μ-loop
 sub-at c = search needs
 
--- src/trips.rt:29:5
 loop-less : tie.Need-loop-less Inv-loop μ-loop
 loop-less c = search needs
 
--- src/trips.rt:29:5
 loop-again : tie.Need-loop-again Inv-loop μ-loop
 loop-again c =
     let a = c .before .before .before .before .before .before .before .before .before .before .before .before .before .before .before .before .before .before .args in
@@ -68,19 +60,15 @@ loop-again c =
       search needs,
     )
 
--- src/trips.rt:14:1
 same-length : tie.Need-same-length Inv-loop μ-loop
 same-length c = search needs
 
--- src/trips.rt:14:1
 same-length-2 : tie.Need-same-length-2 Inv-loop μ-loop
 same-length-2 c = search needs
 
--- src/trips.rt:14:1
 same-length-3 : tie.Need-same-length-3 Inv-loop μ-loop
 same-length-3 c = search needs
 
--- src/trips.rt:14:1
 returns : tie.Need-returns Inv-loop μ-loop
 returns c =
     let a = c .before .before .before .before .before .before .args in

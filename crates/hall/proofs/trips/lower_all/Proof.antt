@@ -26,35 +26,27 @@ Inv-loop robots₀ vertices₀ count zone line places goals n out₀ made₀ i�
 abbrev μ-loop : tie.MeasureT-loop
 μ-loop robots₀ vertices₀ count zone line places goals n out₀ made₀ i₀ robots vertices out made i = n - i
 
--- src/trips.rt:80:5
 loop-holds : tie.Need-loop-holds Inv-loop μ-loop
 loop-holds c = (refl, search needs, refl, refl, refl)
 
--- src/trips.rt:81:17
 shared-slice-read-r : tie.Need-shared-slice-read-r Inv-loop μ-loop
 shared-slice-read-r c = search needs
 
--- src/trips.rt:82:17
 shared-slice-read-p : tie.Need-shared-slice-read-p Inv-loop μ-loop
 shared-slice-read-p c = search needs
 
--- src/trips.rt:83:17
 shared-slice-read-q : tie.Need-shared-slice-read-q Inv-loop μ-loop
 shared-slice-read-q c = search needs
 
--- src/trips.rt:84:9
 lower-requires : tie.Need-lower-requires Inv-loop μ-loop
 lower-requires c κs = search needs
 
--- src/trips.rt:85:9
 add-i : tie.Need-add-i Inv-loop μ-loop
 add-i c = search needs
 
--- src/trips.rt:80:5
 loop-less : tie.Need-loop-less Inv-loop μ-loop
 loop-less c = search needs
 
--- src/trips.rt:80:5
 loop-again : tie.Need-loop-again Inv-loop μ-loop
 loop-again c =
     let a = c .before .before .before .before .before .before .before .before .before .before .before .before .before .before .before .before .before .before .before .before .before .before .args in
@@ -74,19 +66,15 @@ loop-again c =
       search needs,
     )
 
--- src/trips.rt:64:1
 same-length : tie.Need-same-length Inv-loop μ-loop
 same-length c = search needs
 
--- src/trips.rt:64:1
 same-length-2 : tie.Need-same-length-2 Inv-loop μ-loop
 same-length-2 c = search needs
 
--- src/trips.rt:64:1
 same-length-3 : tie.Need-same-length-3 Inv-loop μ-loop
 same-length-3 c = search needs
 
--- src/trips.rt:64:1
 returns : tie.Need-returns Inv-loop μ-loop
 returns c =
     let a = c .before .before .before .before .before .before .before .before .before .args in

@@ -13,7 +13,7 @@ use Rattle.hall.proofs.trips.raise.Tie as tie
 use Rattle.hall.proofs.trips.raise.Reads as reads
 use Rattle.hall.proofs.trips.raise.Lts as lts
 use Rattle.motion.proofs.make.Reads as make-reads
-use Rattle.motion.proofs.vertex_at.Reads as vertex-at-reads
+use Rattle.cells.proofs.vertex_at.Reads as vertex-at-reads
 
 abbrev Inv-loop : tie.InvT-loop
 Inv-loop robots₀ vertices₀ count zone r from to out₀ made₀ stop at₀ robots vertices out made at =
@@ -24,35 +24,27 @@ Inv-loop robots₀ vertices₀ count zone r from to out₀ made₀ stop at₀ ro
 abbrev μ-loop : tie.MeasureT-loop
 μ-loop robots₀ vertices₀ count zone r from to out₀ made₀ stop at₀ robots vertices out made at = to - at
 
--- src/trips.rt:54:5
 loop-holds : tie.Need-loop-holds Inv-loop μ-loop
 loop-holds c = (refl, search needs, refl, refl, refl)
 
--- src/trips.rt:55:13
 vertex-at-requires : tie.Need-vertex-at-requires Inv-loop μ-loop
 vertex-at-requires c κs = search needs
 
--- src/trips.rt:56:33
 add-vertex-at : tie.Need-add-vertex-at Inv-loop μ-loop
 add-vertex-at c = search needs
 
--- src/trips.rt:56:13
 vertex-at-requires-2 : tie.Need-vertex-at-requires-2 Inv-loop μ-loop
 vertex-at-requires-2 c κs = search needs
 
--- src/trips.rt:57:9
 make-requires : tie.Need-make-requires Inv-loop μ-loop
 make-requires c κs = search needs
 
--- src/trips.rt:58:9
 add-at : tie.Need-add-at Inv-loop μ-loop
 add-at c = search needs
 
--- src/trips.rt:54:5
 loop-less : tie.Need-loop-less Inv-loop μ-loop
 loop-less c = search needs
 
--- src/trips.rt:54:5
 loop-again : tie.Need-loop-again Inv-loop μ-loop
 loop-again c =
     let a = c .before .before .before .before .before .before .before .before .before .before .before .before .before .before .before .before .before .before .args in
@@ -68,19 +60,15 @@ loop-again c =
       search needs,
     )
 
--- src/trips.rt:39:1
 same-length : tie.Need-same-length Inv-loop μ-loop
 same-length c = search needs
 
--- src/trips.rt:39:1
 same-length-2 : tie.Need-same-length-2 Inv-loop μ-loop
 same-length-2 c = search needs
 
--- src/trips.rt:39:1
 same-length-3 : tie.Need-same-length-3 Inv-loop μ-loop
 same-length-3 c = search needs
 
--- src/trips.rt:39:1
 returns : tie.Need-returns Inv-loop μ-loop
 returns c =
     let a = c .before .before .before .before .before .before .args in

@@ -25,7 +25,6 @@ Inv-loop robots₀ vertices₀ count zone line places goals n out₀ made₀ lef
 abbrev μ-loop : tie.MeasureT-loop
 μ-loop robots₀ vertices₀ count zone line places goals n out₀ made₀ left₀ robots vertices out made left = left
 
--- src/trips.rt:107:5
 loop-holds : tie.Need-loop-holds Inv-loop μ-loop
 loop-holds c =
     let a = c .before .before .before .before .before .before .before .args in (
@@ -36,35 +35,27 @@ loop-holds c =
       refl,
     )
 
--- src/trips.rt:108:17
 sub-i : tie.Need-sub-i Inv-loop μ-loop
 sub-i c = search needs
 
--- src/trips.rt:109:17
 shared-slice-read-r : tie.Need-shared-slice-read-r Inv-loop μ-loop
 shared-slice-read-r c = search needs
 
--- src/trips.rt:110:17
 shared-slice-read-p : tie.Need-shared-slice-read-p Inv-loop μ-loop
 shared-slice-read-p c = search needs
 
--- src/trips.rt:111:17
 shared-slice-read-q : tie.Need-shared-slice-read-q Inv-loop μ-loop
 shared-slice-read-q c = search needs
 
--- src/trips.rt:112:9
 raise-requires : tie.Need-raise-requires Inv-loop μ-loop
 raise-requires c κs = search needs
 
--- src/trips.rt:113:9
 sub-left : tie.Need-sub-left Inv-loop μ-loop
 sub-left c = search needs
 
--- src/trips.rt:107:5
 loop-less : tie.Need-loop-less Inv-loop μ-loop
 loop-less c = search needs
 
--- src/trips.rt:107:5
 loop-again : tie.Need-loop-again Inv-loop μ-loop
 loop-again c =
     let a = c .before .before .before .before .before .before .before .before .before .before .before .before .before .before .before .before .before .before .before .before .before .before .args in
@@ -87,19 +78,15 @@ loop-again c =
       search needs,
     )
 
--- src/trips.rt:91:1
 same-length : tie.Need-same-length Inv-loop μ-loop
 same-length c = search needs
 
--- src/trips.rt:91:1
 same-length-2 : tie.Need-same-length-2 Inv-loop μ-loop
 same-length-2 c = search needs
 
--- src/trips.rt:91:1
 same-length-3 : tie.Need-same-length-3 Inv-loop μ-loop
 same-length-3 c = search needs
 
--- src/trips.rt:91:1
 returns : tie.Need-returns Inv-loop μ-loop
 returns c =
     let a = c .before .before .before .before .before .before .before .before .before .args in

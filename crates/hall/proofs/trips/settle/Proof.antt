@@ -12,27 +12,21 @@ use Rattle.hall.proofs.trips.settle.Lts as lts
 use Rattle.hall.proofs.trips.lower_all.Reads as lower-all-reads
 use Rattle.hall.proofs.trips.raise_all.Reads as raise-all-reads
 
--- src/trips.rt:133:9
 lower-all-requires : tie.Need-lower-all-requires
 lower-all-requires c κs = search needs
 
--- src/trips.rt:134:5
 raise-all-requires : tie.Need-raise-all-requires
 raise-all-requires c κs = search needs
 
--- src/trips.rt:119:1
 same-length : tie.Need-same-length
 same-length c = search needs
 
--- src/trips.rt:119:1
 same-length-2 : tie.Need-same-length-2
 same-length-2 c = search needs
 
--- src/trips.rt:119:1
 same-length-3 : tie.Need-same-length-3
 same-length-3 c = search needs
 
--- src/trips.rt:119:1
 returns : tie.Need-returns
 unfolding hallMoves
 returns c =

@@ -12,77 +12,59 @@ use Rattle.judge.proofs.ending.ends_zone.Tie as tie
 use Rattle.judge.proofs.ending.ends_zone.Reads as reads
 use Rattle.judge.proofs.ending.ends_zone.Lts as lts
 use Rattle.lineup.proofs.line.line_up.Reads as line-up-reads
-use Rattle.configurations.proofs.goals.can_end.Reads as can-end-reads
+use Rattle.exits.proofs.goals.can_end.Reads as can-end-reads
 
--- src/ending.rt:83:13
 element-copy-out-a : tie.Need-element-copy-out-a
 element-copy-out-a c = search needs
 
--- src/ending.rt:83:13
 cast-a : tie.Need-cast-a
 cast-a c = search needs
 
--- src/ending.rt:84:13
 element-copy-out-m : tie.Need-element-copy-out-m
 element-copy-out-m c = search needs
 
--- src/ending.rt:84:13
 cast-m : tie.Need-cast-m
 cast-m c = search needs
 
--- src/ending.rt:85:13
 add-e : tie.Need-add-e
 add-e c = search needs
 
--- src/ending.rt:86:17
 element-copy-out-count : tie.Need-element-copy-out-count
 element-copy-out-count c = search needs
 
--- src/ending.rt:86:17
 cast-count : tie.Need-cast-count
 cast-count c = search needs
 
--- src/ending.rt:89:28
 sub-line-up : tie.Need-sub-line-up
 sub-line-up c = search needs
 
--- src/ending.rt:89:28
 part-line-up-start : tie.Need-part-line-up-start
 part-line-up-start c = search needs
 
--- src/ending.rt:89:28
 part-line-up-end : tie.Need-part-line-up-end
 part-line-up-end c = search needs
 
--- src/ending.rt:89:43
 slice-aggregate-line-up : tie.Need-slice-aggregate-line-up
 slice-aggregate-line-up c = search needs
 
--- src/ending.rt:89:56
 slice-aggregate-line-up-2 : tie.Need-slice-aggregate-line-up-2
 slice-aggregate-line-up-2 c = search needs
 
--- src/ending.rt:89:9
 line-up-requires : tie.Need-line-up-requires
 line-up-requires c κs = search needs
 
--- src/ending.rt:90:26
 element-copy-out-can-end : tie.Need-element-copy-out-can-end
 element-copy-out-can-end c = search needs
 
--- src/ending.rt:90:35
 sub-can-end : tie.Need-sub-can-end
 sub-can-end c = search needs
 
--- src/ending.rt:90:35
 part-can-end-start : tie.Need-part-can-end-start
 part-can-end-start c = search needs
 
--- src/ending.rt:90:35
 part-can-end-end : tie.Need-part-can-end-end
 part-can-end-end c = search needs
 
--- src/ending.rt:90:58
 array-borrow-prefix-robots : tie.Need-array-borrow-prefix-robots
 array-borrow-prefix-robots c =
     let a = c .before .before .before .before .before .before .before .before .before .before .before .before .before .before .args in
@@ -90,7 +72,6 @@ array-borrow-prefix-robots c =
     let x : l .result ≤ 128 = lined-small (a .first .now) (a .size .now) (a .listed .now) (a .z) (c .before .before .before .before .before .before .before .before .before .before .before .before .before .before .pre .0) (onVertices (a .goals .now)) (l .result) (l .last .1 .1 .0) (l .last .1 .1 .1 .0) (l .ensures) in
     search needs
 
--- src/ending.rt:90:58
 slice-aggregate-can-end : tie.Need-slice-aggregate-can-end
 slice-aggregate-can-end c =
     let a = c .before .before .before .before .before .before .before .before .before .before .before .before .before .before .before .args in
@@ -99,7 +80,6 @@ slice-aggregate-can-end c =
     let y : l .result ≤ length (l .last .1 .1 .0) = search needs in
     sym (length-take-le (l .result) (l .last .1 .1 .0) y)
 
--- src/ending.rt:90:5
 can-end-requires : tie.Need-can-end-requires
 can-end-requires c κs =
     let a = c .before .before .before .before .before .before .before .before .before .before .before .before .before .before .before .args in
@@ -108,7 +88,6 @@ can-end-requires c κs =
     let y : l .result ≤ length (l .last .1 .1 .0) = search needs in
     (search needs, search needs, omega (arith, x, length-take-le (l .result) (l .last .1 .1 .0) y))
 
--- src/ending.rt:70:1
 returns : tie.Need-returns
 returns c =
     let a = c .before .before .before .before .before .before .before .before .before .before .before .before .before .before .before .before .before .args in

@@ -7,7 +7,7 @@ use lib.ListN.{length, length-set}
 use Rattle.spec.specs.Layout.{Map}
 use Rattle.spec.specs.Terms.{zoneCount}
 use Rattle.motion.specs.States.{stateOf}
-use Rattle.stepping.specs.Given.{Given}
+use Rattle.walking.specs.Given.{Given}
 use Rattle.judge.specs.Filling.{filled-by, Filled, filled-none, filled-more, filled-all}
 use Rattle.judge.proofs.ending.fill_lists.Statement.{statement}
 use Rattle.judge.proofs.ending.fill_lists.Tie as tie
@@ -24,40 +24,32 @@ Inv-loop first size listed zones cells₀ counts₀ on z₀ cells counts z =
 abbrev μ-loop : tie.MeasureT-loop
 μ-loop first size listed zones cells₀ counts₀ on z₀ cells counts z = zones - z
 
--- src/ending.rt:61:26
 slice-aggregate-robots-of : tie.Need-slice-aggregate-robots-of Inv-loop μ-loop
 slice-aggregate-robots-of c = search needs
 
--- src/ending.rt:61:5
 robots-of-requires : tie.Need-robots-of-requires Inv-loop μ-loop
 robots-of-requires c κs = search needs
 
--- src/ending.rt:63:5
 loop-holds : tie.Need-loop-holds Inv-loop μ-loop
 loop-holds c =
     let p = c .before .before .before .before .before .pre in
     let b = c .before .before .before .before .before .args in
     (search needs, p .1, p .2, λ m n k kind zone place rows d e. filled-none m (b .first .now) (b .counts .now) (b .cells .now) _ (p .3))
 
--- src/ending.rt:64:19
 slice-aggregate-fill-zone : tie.Need-slice-aggregate-fill-zone Inv-loop μ-loop
 slice-aggregate-fill-zone c = search needs
 
--- src/ending.rt:64:9
 fill-zone-requires : tie.Need-fill-zone-requires Inv-loop μ-loop
 fill-zone-requires c κs =
     let l = c .before .before .before .before .loop in
     (c .before .before .before .before .before .before .before .before .before .before .pre .0 (l .z) (c .before .before .before .loop-test .taken), l .inv .1)
 
--- src/ending.rt:65:9
 add-z : tie.Need-add-z Inv-loop μ-loop
 add-z c = search needs
 
--- src/ending.rt:63:5
 loop-less : tie.Need-loop-less Inv-loop μ-loop
 loop-less c = search needs
 
--- src/ending.rt:63:5
 loop-again : tie.Need-loop-again Inv-loop μ-loop
 loop-again c =
     let a = c .before .before .before .before .before .before .before .before .before .before .before .before .before .args in
@@ -71,11 +63,9 @@ loop-again c =
           filled-more m n k kind (a .first .now) (a .size .now) (a .listed .now) zone place rows d _ (l .counts) (l .cells) _ _ (l .z) (l .inv .1) (l .inv .2) t (l .inv .3 m n k kind zone place rows d e) w,
     )
 
--- src/ending.rt:48:1
 same-length : tie.Need-same-length Inv-loop μ-loop
 same-length c = search needs
 
--- src/ending.rt:48:1
 returns : tie.Need-returns Inv-loop μ-loop
 returns c =
     let a = c .before .before .before .before .before .before .before .args in

@@ -4,7 +4,7 @@ use Prim.Native.Nat.{_+_, _-_, _≤_}
 use lib.ListN.{length, getD, take, drop}
 use lib.Seq.{length-take-le}
 use Rattle.motion.specs.Tables.{onVertices}
-use Rattle.stepping.specs.Given.{part}
+use Rattle.walking.specs.Given.{part}
 use Rattle.judge.specs.Filling.{lined-small, lined-fits, filled-zone}
 use borrow.Author.Needs.{needs}
 use Rattle.judge.proofs.ending.fill_zone.Statement.{statement}
@@ -14,66 +14,51 @@ use Rattle.judge.proofs.ending.fill_zone.Lts as lts
 use Rattle.lineup.proofs.line.line_up.Reads as line-up-reads
 use Rattle.rosters.proofs.lists.store.Reads as store-reads
 
--- src/ending.rt:38:13
 element-copy-out-a : tie.Need-element-copy-out-a
 element-copy-out-a c = search needs
 
--- src/ending.rt:38:13
 cast-a : tie.Need-cast-a
 cast-a c = search needs
 
--- src/ending.rt:39:17
 element-copy-out-e : tie.Need-element-copy-out-e
 element-copy-out-e c = search needs
 
--- src/ending.rt:39:17
 cast-e : tie.Need-cast-e
 cast-e c = search needs
 
--- src/ending.rt:39:13
 add-e : tie.Need-add-e
 add-e c = search needs
 
--- src/ending.rt:42:25
 sub-line-up : tie.Need-sub-line-up
 sub-line-up c = search needs
 
--- src/ending.rt:42:25
 part-line-up-start : tie.Need-part-line-up-start
 part-line-up-start c = search needs
 
--- src/ending.rt:42:25
 part-line-up-end : tie.Need-part-line-up-end
 part-line-up-end c = search needs
 
--- src/ending.rt:42:40
 slice-aggregate-line-up : tie.Need-slice-aggregate-line-up
 slice-aggregate-line-up c = search needs
 
--- src/ending.rt:42:53
 slice-aggregate-line-up-2 : tie.Need-slice-aggregate-line-up-2
 slice-aggregate-line-up-2 c = search needs
 
--- src/ending.rt:42:9
 line-up-requires : tie.Need-line-up-requires
 line-up-requires c κs =
     let a = c .before .before .before .before .before .before .before .before .args in
     let x : length (take (getD (a .first .now) (a .z) 0 + getD (a .size .now) (a .z) 0 - getD (a .first .now) (a .z) 0) (drop (getD (a .first .now) (a .z) 0) (a .listed .now))) ≤ 128 = rw (part (getD (a .first .now) (a .z) 0) (getD (a .size .now) (a .z) 0) (a .listed .now)) (c .before .before .before .before .before .before .before .before .pre .0 .long) in
     (x, search needs, search needs)
 
--- src/ending.rt:43:11
 sub-store : tie.Need-sub-store
 sub-store c = search needs
 
--- src/ending.rt:43:11
 part-store-start : tie.Need-part-store-start
 part-store-start c = search needs
 
--- src/ending.rt:43:11
 part-store-end : tie.Need-part-store-end
 part-store-end c = search needs
 
--- src/ending.rt:43:28
 array-share-prefix-robots : tie.Need-array-share-prefix-robots
 array-share-prefix-robots c =
     let a = c .before .before .before .before .before .before .before .before .before .before .before .before .args in
@@ -81,7 +66,6 @@ array-share-prefix-robots c =
     let x : l .result ≤ 128 = lined-small (a .first .now) (a .size .now) (a .listed .now) (a .z) (c .before .before .before .before .before .before .before .before .before .before .before .before .pre .0) (onVertices (a .on .now)) (l .result) (l .last .1 .1 .0) (l .last .1 .1 .1 .0) (l .ensures) in
     search needs
 
--- src/ending.rt:43:28
 slice-aggregate-store : tie.Need-slice-aggregate-store
 slice-aggregate-store c =
     let a = c .before .before .before .before .before .before .before .before .before .before .before .before .before .args in
@@ -90,7 +74,6 @@ slice-aggregate-store c =
     let y : l .result ≤ length (l .last .1 .1 .0) = search needs in
     sym (length-take-le (l .result) (l .last .1 .1 .0) y)
 
--- src/ending.rt:43:5
 store-requires : tie.Need-store-requires
 store-requires c κs =
     let a = c .before .before .before .before .before .before .before .before .before .before .before .before .before .args in
@@ -99,7 +82,6 @@ store-requires c κs =
     let y : l .result ≤ length (l .last .1 .1 .0) = search needs in
     lined-fits (a .first .now) (a .size .now) (a .listed .now) (a .z) (c .before .before .before .before .before .before .before .before .before .before .before .before .before .pre .0) (onVertices (a .on .now)) (l .result) (l .last .1 .1 .0) (l .last .1 .1 .1 .0) (l .ensures) y (a .cells .now) (c .before .before .before .before .before .before .before .before .before .before .before .before .before .pre .1)
 
--- src/ending.rt:44:17
 cast-counts : tie.Need-cast-counts
 cast-counts c =
     let a = c .before .before .before .before .before .before .before .before .before .before .before .before .before .before .before .before .args in
@@ -107,15 +89,12 @@ cast-counts c =
     let x : l .result ≤ 128 = lined-small (a .first .now) (a .size .now) (a .listed .now) (a .z) (c .before .before .before .before .before .before .before .before .before .before .before .before .before .before .before .before .pre .0) (onVertices (a .on .now)) (l .result) (l .last .1 .1 .0) (l .last .1 .1 .1 .0) (l .ensures) in
     search needs
 
--- src/ending.rt:44:5
 element-write-counts : tie.Need-element-write-counts
 element-write-counts c = search needs
 
--- src/ending.rt:26:1
 same-length : tie.Need-same-length
 same-length c = search needs
 
--- src/ending.rt:26:1
 returns : tie.Need-returns
 returns c =
     let a = c .before .before .before .before .before .before .before .before .before .before .before .before .before .before .before .before .args in

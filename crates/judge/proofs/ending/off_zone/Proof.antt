@@ -12,9 +12,9 @@ use Rattle.spec.specs.Run.{goalsFrom}
 use Rattle.spec.specs.Terms.{zoneCount}
 use Rattle.theory.specs.Maps.Consistent.{Consistent}
 use Rattle.motion.specs.States.{stateOf}
-use Rattle.stepping.specs.Given.{Given}
+use Rattle.walking.specs.Given.{Given}
 use Rattle.judge.specs.Endings.{offZone, goals-next, goals-off, goals-all}
-use Rattle.judge.specs.Held.{Held}
+use Rattle.testing.specs.Held.{Held}
 use Rattle.judge.specs.Judging.{ends-by}
 use Rattle.judge.proofs.ending.off_zone.Statement.{statement}
 use Rattle.judge.proofs.ending.off_zone.Tie as tie
@@ -31,30 +31,24 @@ Inv-loop kind first size listed zones cells counts targets z₀ z =
 abbrev μ-loop : tie.MeasureT-loop
 μ-loop kind first size listed zones cells counts targets z₀ z = zones - z
 
--- src/ending.rt:108:30
 slice-aggregate-robots-of : tie.Need-slice-aggregate-robots-of Inv-loop μ-loop
 slice-aggregate-robots-of c = search needs
 
--- src/ending.rt:108:5
 robots-of-requires : tie.Need-robots-of-requires Inv-loop μ-loop
 robots-of-requires c κs = search needs
 
--- src/ending.rt:110:5
 loop-holds : tie.Need-loop-holds Inv-loop μ-loop
 loop-holds c = (search needs, λ m n k zone place rows d e s h x. refl)
 
--- src/ending.rt:111:68
 slice-aggregate-ends-zone : tie.Need-slice-aggregate-ends-zone Inv-loop μ-loop
 slice-aggregate-ends-zone c = search needs
 
--- src/ending.rt:111:13
 ends-zone-requires : tie.Need-ends-zone-requires Inv-loop μ-loop
 ends-zone-requires c κs =
     let p = c .before .before .before .before .before .before .before .before .pre in
     let z = c .before .before .loop .z in
     (p .0 z (c .before .loop-test .taken), p .1 z (c .before .loop-test .taken))
 
--- src/ending.rt:112:13
 returns : tie.Need-returns Inv-loop μ-loop
 returns c =
     λ m n k zone place rows d e s h x.
@@ -65,15 +59,12 @@ returns c =
     (sym (ends-by m n k (a .kind .now) (a .first .now) (a .size .now) (a .listed .now) zone place rows d s _ (a .counts .now) (a .cells .now) h x (l .z) t) ∙ sym (c .before .ends-zone .ensures) ∙ not-true _ (c .if1 .taken))
     ∙ ap (offZone (l .z)) e) ∙ goals-by (m .zones) s (a .goals) _ (c .before .before .before .before .before .before .robots-of .ensures)
 
--- src/ending.rt:114:9
 add-z : tie.Need-add-z Inv-loop μ-loop
 add-z c = search needs
 
--- src/ending.rt:110:5
 loop-less : tie.Need-loop-less Inv-loop μ-loop
 loop-less c = search needs
 
--- src/ending.rt:110:5
 loop-again : tie.Need-loop-again Inv-loop μ-loop
 loop-again c = (
   search needs,
@@ -85,7 +76,6 @@ loop-again c = (
       (sym (ends-by m n k (a .kind .now) (a .first .now) (a .size .now) (a .listed .now) zone place rows d s _ (a .counts .now) (a .cells .now) h x (l .z) t) ∙ sym (c .before .ends-zone .ensures) ∙ not-false _ (c .if1 .left)),
 )
 
--- src/ending.rt:94:1
 returns-2 : tie.Need-returns-2 Inv-loop μ-loop
 returns-2 c =
     λ m n k zone place rows d e s h x.

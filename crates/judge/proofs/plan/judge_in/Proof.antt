@@ -2,11 +2,11 @@ use borrow.Author.Needs.{needs}
 use mir.Syntax.{w8}
 use borrow.Kind.Array.{eInt, good-length}
 use denote.Enum.Declared.{tagOf}
-use Rattle.judge.proofs.PlanFault.{the-type}
-use Rattle.judge.specs.declared.PlanFault.the-variants as plan
-use Rattle.stepping.specs.Left.{start-consistent}
-use Rattle.judge.specs.Fault.{other-fault}
-use Rattle.stepping.specs.Given.{has-zone}
+use Rattle.testing.proofs.PlanFault.{the-type}
+use Rattle.testing.specs.declared.PlanFault.the-variants as plan
+use Rattle.walking.specs.Left.{start-consistent}
+use Rattle.testing.specs.Fault.{other-fault}
+use Rattle.walking.specs.Given.{has-zone}
 use Rattle.judge.specs.Endings.{off-some, off-none}
 use Rattle.wire.specs.Payload.{payload}
 use Rattle.spec.specs.State as meaning
@@ -15,7 +15,7 @@ use lib.ListN.{length, take}
 use Prim.Native.Nat.{ℕ, _≤_}
 use native.Mathlib.Omega.{arith}
 use mathlib.Core.Path.{_≡_, sym, ap, _∙_}
-use Rattle.judge.specs.Steps.{has-list}
+use Rattle.testing.specs.Steps.{has-list}
 use Rattle.judge.specs.Judging.{JudgedWalk, judged-refused, judged-surplus, judged-goals}
 use Rattle.judge.proofs.plan.judge_in.Statement.{statement}
 use Rattle.judge.proofs.plan.judge_in.Tie as tie

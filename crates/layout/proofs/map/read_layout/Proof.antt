@@ -2,9 +2,9 @@ use borrow.Author.Needs.{needs}
 use Prim.Native.Nat.{_-_}
 use mathlib.Core.Path.{sym, _∙_}
 use borrow.Author.Tests.{not-true, not-false}
-use Rattle.layout.specs.Fault.{given}
-use Rattle.layout.specs.Bytes.{held}
-use Rattle.layout.specs.Heads.{countsIn, counts-range}
+use Rattle.zoning.specs.Fault.{given}
+use Rattle.zoning.specs.Bytes.{held}
+use Rattle.zoning.specs.Heads.{countsIn, counts-range}
 use Rattle.layout.specs.Rest.{mapAt, edgesIn, map-counts, map-zones, map-rest}
 use Rattle.layout.specs.Map.{noMap, nothing-is, made-is}
 use Rattle.layout.proofs.map.read_layout.Statement.{statement}

@@ -5,8 +5,8 @@ use mathlib.Core.Path.{_≡_, refl, sym, _∙_}
 use lib.ListN.{drop}
 use borrow.Author.Tests.{not-true, not-false}
 use Rattle.spec.specs.Layout.{Map, kindsFrom}
-use Rattle.layout.specs.Zones.{zonesIn}
-use Rattle.layout.specs.Found.{headsOf}
+use Rattle.zoning.specs.Zones.{zonesIn}
+use Rattle.zoning.specs.Found.{headsOf}
 use Rattle.layout.specs.Kinds.{Ready, kinds-bad, kinds-good, kinds-all}
 use Rattle.layout.proofs.map.test_kinds.Statement.{statement}
 use Rattle.layout.proofs.map.test_kinds.Tie as tie

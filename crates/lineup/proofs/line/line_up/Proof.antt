@@ -20,43 +20,33 @@ Inv-loop robots zone line₀ places₀ n₀ k₀ line places n k =
 abbrev μ-loop : tie.MeasureT-loop
 μ-loop robots zone line₀ places₀ n₀ k₀ line places n k = length zone - k
 
--- src/line.rt:17:5
 loop-holds : tie.Need-loop-holds Inv-loop μ-loop
 loop-holds c = (search needs, refl, refl, collect-none _ _ _)
 
--- src/line.rt:18:17
 shared-slice-read-v : tie.Need-shared-slice-read-v Inv-loop μ-loop
 shared-slice-read-v c = search needs
 
--- src/line.rt:19:13
 robot-on-requires : tie.Need-robot-on-requires Inv-loop μ-loop
 robot-on-requires c κs = search needs
 
--- src/line.rt:20:21
 cast-place : tie.Need-cast-place Inv-loop μ-loop
 cast-place c = search needs
 
--- src/line.rt:21:9
 add-k : tie.Need-add-k Inv-loop μ-loop
 add-k c = search needs
 
--- src/line.rt:23:13
 slice-write-line : tie.Need-slice-write-line Inv-loop μ-loop
 slice-write-line c = search needs
 
--- src/line.rt:24:13
 slice-write-places : tie.Need-slice-write-places Inv-loop μ-loop
 slice-write-places c = search needs
 
--- src/line.rt:25:13
 add-n : tie.Need-add-n Inv-loop μ-loop
 add-n c = search needs
 
--- src/line.rt:17:5
 loop-less : tie.Need-loop-less Inv-loop μ-loop
 loop-less c = search needs
 
--- src/line.rt:17:5
 loop-again : tie.Need-loop-again Inv-loop μ-loop
 loop-again c =
     let a = c .before .before .before .before .before .before .before .before .before .before .args in
@@ -69,11 +59,9 @@ loop-again c =
           (c .before .before .robot-on .ensures) (c .if1 .taken) (omega (arith, v .short, c .before .before .before .before .before .before .before .before .before .before .pre)) (omega (arith, v .short, c .before .before .before .before .before .before .before .before .before .before .pre)) v,
     )
 
--- src/line.rt:17:5
 loop-less-2 : tie.Need-loop-less-2 Inv-loop μ-loop
 loop-less-2 c = search needs
 
--- src/line.rt:17:5
 loop-again-2 : tie.Need-loop-again-2 Inv-loop μ-loop
 loop-again-2 c =
     let a = c .before .before .before .before .before .before .before .before .before .before .args in
@@ -85,15 +73,12 @@ loop-again-2 c =
           (c .before .before .robot-on .ensures) (c .if1 .left) (o .inv .3),
     )
 
--- src/line.rt:11:1
 same-length : tie.Need-same-length Inv-loop μ-loop
 same-length c = search needs
 
--- src/line.rt:11:1
 same-length-2 : tie.Need-same-length-2 Inv-loop μ-loop
 same-length-2 c = search needs
 
--- src/line.rt:11:1
 returns : tie.Need-returns Inv-loop μ-loop
 returns c =
     let a = c .before .before .before .before .before .before .args in

@@ -9,8 +9,8 @@ use Rattle.opening.proofs.files.open_list.Reads as reads
 use Rattle.opening.proofs.files.open_list.Lts as lts
 use Rattle.opening.proofs.files.read_yard.Reads as read-yard-reads
 use Rattle.opening.proofs.files.refused.Reads as refused-reads
-use Rattle.opening.proofs.refusals.of_file.Reads as of-file-reads
-use Rattle.opening.proofs.refusals.of_list.Reads as of-list-reads
+use Rattle.refusals.proofs.of_file.Reads as of-file-reads
+use Rattle.refusals.proofs.of_list.Reads as of-list-reads
 use Rattle.replay.proofs.check_moves.Reads as check-moves-reads
 use Rattle.checking.proofs.check_file.Reads as check-file-reads
 

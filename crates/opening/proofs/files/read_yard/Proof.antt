@@ -7,8 +7,8 @@ use Rattle.opening.proofs.files.read_yard.Reads as reads
 use Rattle.opening.proofs.files.read_yard.Lts as lts
 use Rattle.opening.proofs.files.no_placing.Reads as no-placing-reads
 use Rattle.opening.proofs.files.yard.Reads as yard-reads
-use Rattle.opening.proofs.refusals.of_map.Reads as of-map-reads
-use Rattle.opening.proofs.refusals.of_placing.Reads as of-placing-reads
+use Rattle.refusals.proofs.of_map.Reads as of-map-reads
+use Rattle.refusals.proofs.of_placing.Reads as of-placing-reads
 use Rattle.layout.proofs.read_map.Reads as read-map-reads
 use Rattle.placing.proofs.read_placing.Reads as read-placing-reads
 

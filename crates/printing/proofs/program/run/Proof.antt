@@ -7,7 +7,7 @@ use Rattle.printing.proofs.program.run.Tie as tie
 use Rattle.printing.proofs.program.run.Reads as reads
 use Rattle.printing.proofs.program.run.Lts as lts
 use Rattle.io.proofs.write_all.Reads as write-all-reads
-use Rattle.printing.proofs.lines.listing.Reads as listing-reads
+use Rattle.printing.proofs.files.listing.Reads as listing-reads
 use Rattle.printing.proofs.program.read_file.Reads as read-file-reads
 
 slice-aggregate-read-file : tie.Need-slice-aggregate-read-file

@@ -9,7 +9,7 @@ use Rattle.spec.specs.State as meaning
 use Rattle.motion.specs.States.{stateOf}
 use Rattle.motion.specs.Tables.{tabled}
 use Rattle.motion.specs.World.{madeAll}
-use Rattle.stepping.specs.Alone.{goals-by, endings-alone}
+use Rattle.walking.specs.Alone.{goals-by, endings-alone}
 use Rattle.resolve.specs.Whole.{cleared-start, cleared-over, cleared-goals, cleared-end}
 use borrow.Author.Needs.{needs}
 use Rattle.resolve.proofs.plan.resolve_plan.Statement.{statement}

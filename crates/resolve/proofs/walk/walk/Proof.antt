@@ -1,8 +1,8 @@
 use borrow.Author.Needs.{needs}
 use Rattle.stepping.specs.Steps.{next-room, next-to, next-is, next-step, next-made, stepping-room}
-use Rattle.stepping.specs.Walk.{Walking, walk-start, walk-end, walk-over}
+use Rattle.walking.specs.Walk.{Walking, walk-start, walk-end, walk-over}
 use Rattle.resolve.specs.Whole.{walked-whole, walked-part}
-use Rattle.stepping.specs.Given.{Started, kindAt, verticesAt}
+use Rattle.walking.specs.Given.{Started, kindAt, verticesAt}
 use Rattle.theory.specs.Zones.Crossing.{extraOf}
 use Rattle.motion.specs.World.{worldIn}
 use Rattle.wire.specs.Payload.{payload, held-length}

@@ -19,23 +19,18 @@ Inv-loop robots zone best₀ k₀ best k = (k ≤ length zone) × (best ≤ 255)
 abbrev μ-loop : tie.MeasureT-loop
 μ-loop robots zone best₀ k₀ best k = k
 
--- src/ending.rt:21:5
 loop-holds : tie.Need-loop-holds Inv-loop μ-loop
 loop-holds c = (search needs, search needs, lowest-none (onVertices (c .before .before .args .robots .now)) (c .before .before .args .zone .now) (length (c .before .before .args .zone .now)) 255 (search needs) refl)
 
--- src/ending.rt:22:9
 sub-k : tie.Need-sub-k Inv-loop μ-loop
 sub-k c = search needs
 
--- src/ending.rt:23:13
 robot-at-requires : tie.Need-robot-at-requires Inv-loop μ-loop
 robot-at-requires c κs = search needs
 
--- src/ending.rt:21:5
 loop-less : tie.Need-loop-less Inv-loop μ-loop
 loop-less c = search needs
 
--- src/ending.rt:21:5
 loop-again : tie.Need-loop-again Inv-loop μ-loop
 loop-again c =
     let a = c .before .before .before .before .before .before .before .args in
@@ -48,11 +43,9 @@ loop-again c =
           (o .inv .2 ∙ ap (λ (i : ℕ). lowestCell (order (drop i (arrangementOf (onVertices (a .robots .now)) (a .zone .now))))) n),
     )
 
--- src/ending.rt:21:5
 loop-less-2 : tie.Need-loop-less-2 Inv-loop μ-loop
 loop-less-2 c = search needs
 
--- src/ending.rt:21:5
 loop-again-2 : tie.Need-loop-again-2 Inv-loop μ-loop
 loop-again-2 c =
     let a = c .before .before .before .before .before .before .before .args in
@@ -65,7 +58,6 @@ loop-again-2 c =
           (o .inv .2 ∙ ap (λ (i : ℕ). lowestCell (order (drop i (arrangementOf (onVertices (a .robots .now)) (a .zone .now))))) n),
     )
 
--- src/ending.rt:16:1
 returns : tie.Need-returns Inv-loop μ-loop
 returns c =
     let a = c .before .before .before .before .args in

@@ -10,7 +10,7 @@ use Rattle.ring.proofs.ending.open_at.Statement.{statement}
 use Rattle.ring.proofs.ending.open_at.Tie as tie
 use Rattle.ring.proofs.ending.open_at.Reads as reads
 use Rattle.ring.proofs.ending.open_at.Lts as lts
-use Rattle.motion.proofs.vertex_at.Reads as vertex-at-reads
+use Rattle.cells.proofs.vertex_at.Reads as vertex-at-reads
 use Rattle.circle.proofs.places.next.Reads as next-reads
 
 abbrev Inv-loop : tie.InvT-loop
@@ -21,38 +21,30 @@ Inv-loop zone j others₀ n at₀ i₀ others at i =
 abbrev μ-loop : tie.MeasureT-loop
 μ-loop zone j others₀ n at₀ i₀ others at i = length zone - i
 
--- src/ending.rt:37:13
 sub-n : tie.Need-sub-n Inv-loop μ-loop
 sub-n c = search needs
 
--- src/ending.rt:40:5
 loop-holds : tie.Need-loop-holds Inv-loop μ-loop
 loop-holds c = (refl, search needs, sym (wrap-in (length (c .before .before .args .zone .now)) (c .before .before .args .j) (search needs)), refl, refl)
 
--- src/ending.rt:41:9
 next-requires : tie.Need-next-requires Inv-loop μ-loop
 next-requires c κs =
     let a = c .before .before .before .before .args in
     let o = c .before .loop in
     omega (arith, wrap-under (length (a .zone .now)) (a .j) (o .i) (search needs) (omega arith))
 
--- src/ending.rt:42:13
 vertex-at-requires : tie.Need-vertex-at-requires Inv-loop μ-loop
 vertex-at-requires c κs = search needs
 
--- src/ending.rt:43:9
 slice-write-others : tie.Need-slice-write-others Inv-loop μ-loop
 slice-write-others c = search needs
 
--- src/ending.rt:44:9
 add-i : tie.Need-add-i Inv-loop μ-loop
 add-i c = search needs
 
--- src/ending.rt:40:5
 loop-less : tie.Need-loop-less Inv-loop μ-loop
 loop-less c = search needs
 
--- src/ending.rt:40:5
 loop-again : tie.Need-loop-again Inv-loop μ-loop
 loop-again c =
     let a = c .before .before .before .before .before .before .args in
@@ -68,11 +60,9 @@ loop-again c =
           (c .vertex-at .ensures ∙ ap (λ (i : ℕ). getD z i 0) d) (o .inv .4),
     )
 
--- src/ending.rt:33:1
 same-length : tie.Need-same-length Inv-loop μ-loop
 same-length c = search needs
 
--- src/ending.rt:33:1
 returns : tie.Need-returns Inv-loop μ-loop
 returns c =
     let a = c .before .before .before .before .args in

@@ -8,7 +8,7 @@ use Rattle.selftest.proofs.files.at_goals.Tie as tie
 use Rattle.selftest.proofs.files.at_goals.Reads as reads
 use Rattle.selftest.proofs.files.at_goals.Lts as lts
 use Rattle.answers.proofs.deliver.Reads as deliver-reads
-use Rattle.wire.proofs.put_byte.Reads as put-byte-reads
+use Rattle.writer.proofs.put_byte.Reads as put-byte-reads
 
 abbrev Inv-loop : tie.InvT-loop
 Inv-loop file₀ k i₀ file i = (i ≤ k) × (length file ≡ length file₀)

@@ -7,7 +7,7 @@ use Rattle.selftest.proofs.files.list_vertices.Statement.{statement}
 use Rattle.selftest.proofs.files.list_vertices.Tie as tie
 use Rattle.selftest.proofs.files.list_vertices.Reads as reads
 use Rattle.selftest.proofs.files.list_vertices.Lts as lts
-use Rattle.wire.proofs.put_byte.Reads as put-byte-reads
+use Rattle.writer.proofs.put_byte.Reads as put-byte-reads
 
 abbrev Inv-loop : tie.InvT-loop
 Inv-loop file₀ n i₀ file i = (i ≤ n) × (length file ≡ length file₀)

@@ -7,7 +7,7 @@ use Rattle.selftest.proofs.files.put_edges.Statement.{statement}
 use Rattle.selftest.proofs.files.put_edges.Tie as tie
 use Rattle.selftest.proofs.files.put_edges.Reads as reads
 use Rattle.selftest.proofs.files.put_edges.Lts as lts
-use Rattle.wire.proofs.put_byte.Reads as put-byte-reads
+use Rattle.writer.proofs.put_byte.Reads as put-byte-reads
 
 abbrev Inv-loop : tie.InvT-loop
 Inv-loop file₀ n m i₀ edges₀ file i edges = (edges + 1 ≡ i) × (i ≤ 255) × (length file ≡ length file₀)

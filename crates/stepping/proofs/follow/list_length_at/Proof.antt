@@ -1,4 +1,4 @@
-use Rattle.stepping.specs.Given.{part, kindAt}
+use Rattle.walking.specs.Given.{part, kindAt}
 use Rattle.theory.specs.Zones.Crossing.{extraOf}
 use Rattle.spec.specs.State.{arrangementOf}
 use Rattle.motion.specs.Tables.{onVertices}

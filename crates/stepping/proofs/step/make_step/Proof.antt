@@ -1,5 +1,5 @@
 use Rattle.stepping.specs.Steps.{stepping-room, stepping-from, stepping-to, stepping-leaves, stepping-proper, stepping-short, stepping-named, stepping-room-proper, stepping-extra, stepping-made}
-use Rattle.stepping.specs.Given.{Stepping}
+use Rattle.walking.specs.Given.{Stepping}
 use Rattle.motion.specs.World.{worldIn}
 use Rattle.motion.specs.Tables.{tabled}
 use mathlib.Core.Path.{refl}
@@ -9,10 +9,9 @@ use Rattle.stepping.proofs.step.make_step.Tie as tie
 use Rattle.stepping.proofs.step.make_step.Reads as reads
 use Rattle.stepping.proofs.step.make_step.Lts as lts
 use Rattle.motion.proofs.make.Reads as make-reads
-use Rattle.stepping.proofs.step.enter_at.Reads as enter-at-reads
-use Rattle.stepping.proofs.step.leave_at.Reads as leave-at-reads
+use Rattle.crossing.proofs.sides.enter_at.Reads as enter-at-reads
+use Rattle.crossing.proofs.sides.leave_at.Reads as leave-at-reads
 
--- src/step.rt:210:16
 add-from : tie.Need-add-from
 add-from c =
     let s = c .before .before .before .before .before in
@@ -20,14 +19,12 @@ add-from c =
     let x = stepping-room (a .file .now) (a .o) (a .n) (a .kind .now) (a .first .now) (a .size .now) (a .listed .now) (a .zone .now) (a .place .now) (tabled (a .robots .now) (a .vertices .now)) (s .pre .0) in
     search needs
 
--- src/step.rt:211:9
 leave-at-requires : tie.Need-leave-at-requires
 leave-at-requires c κs =
     let s = c .before .before .before .before .before .before .before .before in
     let a = s .args in
     (stepping-from (a .file .now) (a .o) (a .n) (a .kind .now) (a .first .now) (a .size .now) (a .listed .now) (a .zone .now) (a .place .now) (tabled (a .robots .now) (a .vertices .now)) (s .pre .0) (a .four) (s .pre .1), (stepping-leaves (a .file .now) (a .o) (a .n) (a .kind .now) (a .first .now) (a .size .now) (a .listed .now) (a .zone .now) (a .place .now) (tabled (a .robots .now) (a .vertices .now)) (s .pre .0) (a .four) (s .pre .1), (s .pre .0 .consistent .rooms, stepping-proper (a .file .now) (a .o) (a .n) (a .kind .now) (a .first .now) (a .size .now) (a .listed .now) (a .zone .now) (a .place .now) (tabled (a .robots .now) (a .vertices .now)) (s .pre .0) (a .four) (s .pre .1))))
 
--- src/step.rt:225:9
 enter-at-requires : tie.Need-enter-at-requires
 enter-at-requires c κs =
     let s = c .before .before .before .before .before .before .before .before .before .before .before .before .before .before .before .before .before .before in
@@ -35,23 +32,18 @@ enter-at-requires c κs =
     let w = (worldIn (a .robots .now) (a .vertices .now) (a .count) (a .out .now)) in
     ((stepping-short (a .file .now) (a .o) (a .n) (a .kind .now) (a .first .now) (a .size .now) (a .listed .now) (a .zone .now) (a .place .now) (tabled (a .robots .now) (a .vertices .now)) (s .pre .0) (a .four) (s .pre .1), stepping-room (a .file .now) (a .o) (a .n) (a .kind .now) (a .first .now) (a .size .now) (a .listed .now) (a .zone .now) (a .place .now) (tabled (a .robots .now) (a .vertices .now)) (s .pre .0)), (stepping-to (a .file .now) (a .o) (a .n) (a .kind .now) (a .first .now) (a .size .now) (a .listed .now) (a .zone .now) (a .place .now) (tabled (a .robots .now) (a .vertices .now)) (s .pre .0) (a .four) (s .pre .1), (stepping-named (a .file .now) (a .o) (a .n) (a .kind .now) (a .first .now) (a .size .now) (a .listed .now) (a .zone .now) (a .place .now) (tabled (a .robots .now) (a .vertices .now)) (s .pre .0) (a .four) (s .pre .1), ((let e = s .pre .0 .consistent .rooms in search needs), (stepping-room-proper (a .file .now) (a .o) (a .n) (a .kind .now) (a .first .now) (a .size .now) (a .listed .now) (a .zone .now) (a .place .now) (tabled (a .robots .now) (a .vertices .now)) (s .pre .0) (a .four) (s .pre .1) w _ refl (c .before .before .before .before .before .before .before .before .before .leave-at .ensures), stepping-extra (a .file .now) (a .o) (a .n) (a .kind .now) (a .first .now) (a .size .now) (a .listed .now) (a .zone .now) (a .place .now) (tabled (a .robots .now) (a .vertices .now)) (s .pre .0) (a .four) (s .pre .1) w _ refl (c .before .before .before .before .before .before .before .before .before .leave-at .ensures))))))
 
--- src/step.rt:242:5
 make-requires : tie.Need-make-requires
 make-requires c κs = search needs
 
--- src/step.rt:186:1
 same-length : tie.Need-same-length
 same-length c = search needs
 
--- src/step.rt:186:1
 same-length-2 : tie.Need-same-length-2
 same-length-2 c = search needs
 
--- src/step.rt:186:1
 same-length-3 : tie.Need-same-length-3
 same-length-3 c = search needs
 
--- src/step.rt:186:1
 returns : tie.Need-returns
 returns c =
     λ m points k len rows d h most t.

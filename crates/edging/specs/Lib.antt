@@ -1,0 +1,2 @@
+-- What is read of the edges.
+pub mod Edges

@@ -1,4 +1,0 @@
-// The listing program with no file PLACING: 21, for a length of 0.
-fn main() {
-    printing::run();
-}

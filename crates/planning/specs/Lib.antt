@@ -1,0 +1,2 @@
+-- What a plan comes to.
+pub mod Planned

@@ -1,0 +1,53 @@
+use borrow.Author.Needs.{needs}
+use mathlib.Core.Path.{sym, _∙_}
+use lib.ListN.{length}
+use Rattle.spec.specs.State.{arrangementOf}
+use Rattle.motion.specs.Tables.{onVertices}
+use Rattle.motion.specs.Across.{arrangement-length}
+use Rattle.reaching.specs.Reach.{can-leave-room, can-leave-none}
+use borrow.Author.Needs.{needs}
+use Rattle.reaching.proofs.reach.can_leave.Statement.{statement}
+use Rattle.reaching.proofs.reach.can_leave.Tie as tie
+use Rattle.reaching.proofs.reach.can_leave.Reads as reads
+use Rattle.reaching.proofs.reach.can_leave.Lts as lts
+use Rattle.reaching.proofs.reach.count_robots.Reads as count-robots-reads
+use Rattle.reaching.proofs.reach.has_room.Reads as has-room-reads
+
+count-robots-requires : tie.Need-count-robots-requires
+count-robots-requires c κs = search needs
+
+sub-has-room : tie.Need-sub-has-room
+sub-has-room c = search needs
+
+sub-has-room-2 : tie.Need-sub-has-room-2
+sub-has-room-2 c = search needs
+
+has-room-requires : tie.Need-has-room-requires
+has-room-requires c κs = search needs
+
+returns : tie.Need-returns
+returns c =
+    let a = c .before .before .before .before .before .args in
+    let g = arrangementOf (onVertices (a .robots .now)) (a .zone .now) in
+    let n = c .before .before .count-robots in
+    c .has-room .ensures
+    ∙ can-leave-room g (a .r .0) (n .result .lower) (n .result .all) (n .ensures) (a .j) (length (a .zone .now)) (sym (arrangement-length (onVertices (a .robots .now)) (a .zone .now)))
+    (c .before .if1 .taken)
+
+returns-2 : tie.Need-returns-2
+returns-2 c =
+    let a = c .before .before .before .before .args in
+    let g = arrangementOf (onVertices (a .robots .now)) (a .zone .now) in
+    let n = c .before .count-robots in
+    can-leave-none g (a .r .0) (n .result .lower) (n .result .all) (n .ensures) (a .j) (c .if1 .left)
+
+pub can-leave-spec : {M : Type 1} → statement M
+can-leave-spec =
+    tie.close
+    (tie.spec
+    count-robots-requires
+    sub-has-room
+    sub-has-room-2
+    has-room-requires
+    returns
+    returns-2)

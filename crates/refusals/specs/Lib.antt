@@ -1,0 +1,2 @@
+-- A refusal as a number and a place.
+pub mod Refusals
