@@ -11,18 +11,20 @@ use lib.ListN.{length, getD, set, drop, length-set, length-map, List·getD-eq-de
 use lib.Seq.{drop-cons, getD-set-other}
 use lib.Dec.{T, eqb}
 use borrow.Author.Tests.{eq-eqb, ne-eqb, eqb-true}
-use Rattle.spec.specs.Outcome.{_&&_}
+use Rattle.spec.specs.Outcome.{_&&_, sameList}
 use Rattle.spec.specs.Arrangement.{Arrangement, cell, order, lastFree}
-use Rattle.spec.specs.Clique.{named, sameRobots, makeRoom, cliqueTo, cliqueCanEnter, cliqueEnter}
-use Rattle.spec.specs.State.{State, robotOn, cellOf, arrangementOf}
+use Rattle.spec.specs.Clique.{named, sameRobots, openTarget, lowestOff, makeRoom, cliqueTo, cliqueCanEnter, cliqueEnter}
+use Rattle.spec.specs.State.{State, robotOn, cellOf, arrangementOf, across}
 use Rattle.theory.specs.Basics.Lists.{getD-map}
-use Rattle.theory.specs.Basics.Tests.{of-true, of-false, and-right}
+use Rattle.theory.specs.Basics.Tests.{of-true, of-false, and-right, same→eq}
 use Rattle.theory.specs.Maps.Cells.{cell-of}
 use Rattle.theory.specs.Zones.Arrangements.{cell-inside}
 use Rattle.theory.specs.Zones.Robots.{same-robots}
 use Rattle.theory.specs.Zones.Crossing.{extraOf}
-use Rattle.motion.specs.Across.{arrangement-length, arrangement-at}
+use Rattle.motion.specs.World.{World, madeAll, made-none}
+use Rattle.motion.specs.Across.{arrangement-length, arrangement-at, across-nil}
 use Rattle.cells.specs.Reading.{eqb-suc, cell-under}
+use Rattle.arranging.specs.Toward.{to-rest}
 
 -- a list mapped, from place k on
 pub map-next : (f : ℕ → ℕ) (l : List ℕ) (k x : ℕ) → k < length l → x ≡ f (getD l k 0) → drop k (map f l) ≡ x ∷ drop (k + 1) (map f l)
@@ -192,3 +194,30 @@ enter-allowed s vs r j behind list e none = pick (lastFree (arrangementOf s vs))
     pick : (b : Bool) → lastFree (arrangementOf s vs) ≡ b → Numbered list j
     pick true d = entered-numbered s vs r j behind list e d
     pick false d = rw (none d) (numbered-none j)
+
+-- ---- robots that stand where they are to stand
+
+-- no target is open
+open-none : (a : Arrangement) → openTarget a a ≡ length a
+unfolding openTarget
+open-none [] = refl
+open-none (zero ∷ a) = ap suc (open-none a)
+open-none (suc r ∷ a) = ap suc (open-none a)
+
+-- no robot is off its target
+off-none : (a : Arrangement) → lowestOff a a ≡ 0
+unfolding lowestOff
+off-none [] = refl
+off-none (zero ∷ a) = off-none a
+off-none (suc r ∷ a) = rw (eq-eqb (suc r) (suc r) refl, lowestOff) (off-none a)
+
+-- so none moves
+still : (n : ℕ) (a g : Arrangement) → a ≡ g → cliqueTo n a g ≡ []
+unfolding cliqueTo
+still zero a g e = refl
+still (suc n) a g e = rw e (to-rest (suc n) g g _ _ (omega arith) refl (omega (arith, open-none g)) refl (off-none g))
+
+pub filled-still : (n : ℕ) (a g cells goal : Arrangement) (vs : List ℕ) (w : World) (b : Bool) → cells ≡ a → goal ≡ g → b ≡ true → b ≡ sameList cells goal
+    → w ≡ madeAll w (across vs (cliqueTo n a g))
+filled-still n a g cells goal vs w b e f t s =
+    made-none w _ (ap (across vs) (still n a g (sym e ∙ same→eq cells goal (of-true (sym s ∙ t)) ∙ f)) ∙ across-nil vs)

@@ -18,6 +18,7 @@ ghost use Rattle.clique.specs.Entering.{Numbered};
 use arranging::toward::go_toward;
 use cells::cell_of;
 use cells::cells_of;
+use comparing::same_cells;
 use comparing::same_robots;
 use motion::least;
 use motion::put_cell;
@@ -141,6 +142,10 @@ fn fill_in(
 {
     cells_of(robots, zone, cells);
     goal_cells(list, j, goal);
+    let there = same_cells(cells, goal);
+    if there {
+        return count;
+    }
     let n = zone.len() * 2;
     go_toward(robots, vertices, count, zone, cells, goal, n, out)
 }

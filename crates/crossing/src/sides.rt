@@ -11,12 +11,59 @@ ghost use Rattle.motion.specs.Tables.{tabled, onVertices};
 ghost use Rattle.motion.specs.World.{worldIn, madeAll};
 ghost use Rattle.motion.specs.Coupling.{Listed};
 ghost use Rattle.clique.specs.Entering.{Numbered};
+ghost use Rattle.zones.specs.Near.{nearPlace};
 ghost use Rattle.walking.specs.Kinds.{leaveMoves, enterMoves};
 ghost use Rattle.walking.specs.Held.{heldPart};
 ghost use Rattle.walking.specs.Given.{HasVertex, kindAt, verticesAt};
+use cells::robot_at;
+use cells::vertex_at;
 use numbering::Robot;
 use numbering::Vertex;
 use walking::copy_list;
+
+// The place from which a robot comes to place j of m by one move: the one before it; before the first place of a ring the last, and of another
+// zone the second.
+fn near_place(kind: u8, m: usize, j: usize) -> usize
+    requires { ⌜ 0 < m ⌝ }
+    ensures { λ i. ⌜ i ≡ nearPlace kind m j ⌝ }
+{
+    if 0 < j {
+        return j - 1;
+    }
+    if kind == 4 {
+        return m - 1;
+    }
+    1
+}
+
+// The moves that bring robot r, which can leave there, to place j, which is vertex u: one where it stands beside that and nobody on it.
+fn leave_in(
+    robots: &mut [u8],
+    vertices: &mut [u8],
+    count: usize,
+    kind: u8,
+    zone: &[u8],
+    r: u8,
+    j: usize,
+    u: Vertex,
+    out: &mut [u8],
+) -> usize
+    requires { ⌜ (length (now zone) ≤ 128) × (j < length (now zone)) × (getD (now zone) j 0 ≡ u .0) ⌝ }
+    requires { ⌜ Listed (length (now robots)) (now zone) ⌝ }
+    requires { ⌜ canLeave kind (arrangementOf (tabled (now robots) (now vertices)) (now zone)) r j ≡ true ⌝ }
+    requires { ⌜ Proper (arrangementOf (tabled (now robots) (now vertices)) (now zone)) ⌝ }
+    ensures { λ q. ⌜ worldIn (now (robots .exit)) (now (vertices .exit)) q (now (out .exit)) ≡ madeAll (worldIn (now (robots .entry)) (now (vertices .entry)) count (now (out .entry))) (across (now (zone .entry)) (leaveMoves kind (arrangementOf (tabled (now (robots .entry)) (now (vertices .entry))) (now (zone .entry))) r j)) ⌝ }
+{
+    if motion::robot_in(robots, u) == 255 {
+        let i = near_place(kind, zone.len(), j);
+        let x = robot_at(robots, zone, i);
+        if x.0 == r {
+            let w = vertex_at(zone, i);
+            return motion::make(robots, vertices, count, Robot(r), w, u, out);
+        }
+    }
+    zones::leave(kind, robots, vertices, count, zone, Robot(r), j, out)
+}
 
 // The moves that bring robot r, which can leave there, to vertex u: none where it stands there already.
 pub fn leave_at<'a>(
@@ -46,14 +93,15 @@ pub fn leave_at<'a>(
     let a = first[z] as usize;
     let e = a + size[z] as usize;
     let j = place[u as usize] as usize;
-    zones::leave(
-        kind[z],
+    leave_in(
         robots,
         vertices,
         count,
+        kind[z],
         &listed[a..e],
-        Robot(r),
+        r,
         j,
+        Vertex(u),
         out,
     )
 }

@@ -1,6 +1,6 @@
 -- What a list of moves does to the state, the count and the buffer.
 use mathlib.Core.Path.{_≡_, refl, ap, sym, _∙_}
-use Prim.Native.Nat.{ℕ, zero, suc, _+_, _-_, _*_, _/_, _<_, _≤_}
+use Prim.Native.Nat.{ℕ, zero, suc, _+_, _-_, _*_, _<_, _≤_}
 use mathlib.Core.Bool.{Bool, true, false}
 use mathlib.Core.List.{List, [], _∷_, _++_, map}
 use native.Mathlib.Omega.{arith}
@@ -24,9 +24,9 @@ unfolding laidMove
 laid-move o n m = refl
 
 -- a move that begins past the end of the buffer changes nothing
-pub laid-move-past : (o : List ℕ) (n : ℕ) (m : Move) → length o / 3 ≤ n → o ≡ laidMove o n m
+pub laid-move-past : (o : List ℕ) (n : ℕ) (m : Move) → length o ≤ n * 3 + 2 → o ≡ laidMove o n m
 unfolding laidMove
-laid-move-past o n m h = sym (laid-out o (n * 3 + 2) (m .robot ∷ m .from ∷ m .to ∷ []) (omega arith))
+laid-move-past o n m h = sym (laid-out o (n * 3 + 2) (m .robot ∷ m .from ∷ m .to ∷ []) h)
 
 -- ---- the count
 

@@ -145,11 +145,11 @@ pub fn vertex_in(vertices: &[u8], r: Robot) -> u8
     255
 }
 
-// The bytes of the n-th move.
+// The bytes of the n-th move. No buffer is long enough for a move from 2^62 on.
 fn put_move(out: &mut [u8], n: usize, r: Robot, from: Vertex, to: Vertex)
     ensures { λ q. ⌜ now (out .exit) ≡ laidMove (now (out .entry)) n (mv (r .0) (from .0) (to .0)) ⌝ }
 {
-    if n < out.len() / 3 {
+    if n < 4611686018427387904 {
         put_three(out, n * 3 + 2, r.0, from.0, to.0);
     }
 }

@@ -10,7 +10,8 @@ use crate::Walked;
 use stepping::follow::list_length_at;
 use stepping::step::make_step;
 
-// Walks `count` steps of the payload that stands in a checked file, which all pass, as long as the moves are not more than a list holds.
+// Walks `count` steps of the payload that stands in a checked file, which all pass, as long as the moves are not more than a list holds. The
+// bytes of a step are read before the moves of the one before it are made.
 pub fn walk<'a>(
     file: &[u8],
     count: usize,
@@ -31,6 +32,7 @@ pub fn walk<'a>(
     let mut made: usize = 0;
     let mut o: usize = 2;
     let mut i: usize = 0;
+    let mut four = wire::payload_ahead(file, o);
     while i < count {
         if 21503 < made {
             return Walked {
@@ -38,9 +40,9 @@ pub fn walk<'a>(
                 made: made,
             };
         }
-        let four = wire::payload_four(file, o);
         let e = list_length_at(kind, first, size, listed, zone, robots, four.third);
         let next = o + 4 + e;
+        let ahead = wire::payload_ahead(file, next);
         made = make_step(
             robots,
             vertices,
@@ -58,6 +60,7 @@ pub fn walk<'a>(
             out,
         );
         o = next;
+        four = ahead;
         i += 1;
     }
     Walked {

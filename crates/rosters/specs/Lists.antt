@@ -95,6 +95,15 @@ shift-more p t i q h l s = record {
     case k b d (yes e) = rw e (getD-set-same q i _ 0 (omega (arith, s .long)) ∙ s .past (i + 1) (omega arith))
     case k b d (no n) = getD-set-other q i k _ 0 n ∙ s .over k b (omega arith)
 
+-- of two
+pub shift-pair : (p : List ℕ) (t x : ℕ) → t < 2 → 2 ≤ length p → (t ≡ 0 → x ≡ getD p 1 0) → ((t ≡ 0 → ⊥) → x ≡ getD p 0 0) → Shifting p t 1 (set p 0 x)
+shift-pair p t x h l second first = record {
+  long = length-set p 0 x;
+  under = λ k b. let e : k ≡ 0 = omega arith in rw e (getD-set-same p 0 x 0 (omega arith) ∙ first (λ z. omega arith));
+  over = λ k b d. let e : k ≡ 0 = omega arith in rw e (getD-set-same p 0 x 0 (omega arith) ∙ second (omega arith));
+  past = λ k b. getD-set-other p 0 k x 0 (λ e. omega arith);
+}
+
 -- in the part from element t to n
 pub shift-mid : (p s : List ℕ) (n t : ℕ) → t < n → n ≤ length p → Shifting (take (n - t) (drop t p)) 0 (length (take (n - t) (drop t p)) - 1) s → Shifting p t (n - 1) (putMid t (n - t) p s)
 shift-mid p s n t h l x =

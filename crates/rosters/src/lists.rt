@@ -18,11 +18,30 @@ fn shift_down(part: &mut [u8])
     }
 }
 
-// Takes the robot at index t out of the first n.
+// Who of two robots, x and then y, comes first once the one at index t is taken out.
+fn kept_first(t: usize, x: u8, y: u8) -> u8
+    ensures { λ r. ⌜ (t ≡ 0 → r ≡ y) × ((t ≡ 0 → ⊥) → r ≡ x) ⌝ }
+{
+    if t == 0 {
+        return y;
+    }
+    x
+}
+
+// Takes the robot at index t out of the first n. A list of one or two needs no loop.
 pub fn remove(part: &mut [u8], n: usize, t: usize)
     requires { ⌜ (t < n) × (n ≤ length (now part)) ⌝ }
     ensures { λ q. ⌜ Rewritten (now (part .entry)) n (without t (take n (now (part .entry)))) (now (part .exit)) ⌝ }
 {
+    if n == 1 {
+        return;
+    }
+    if n == 2 {
+        let x = part[0];
+        let y = part[1];
+        part[0] = kept_first(t, x, y);
+        return;
+    }
     shift_down(&mut part[t..n]);
 }
 

@@ -5,6 +5,7 @@ pub mod payload;
 
 pub use payload::byte_at;
 pub use payload::next_place;
+pub use payload::payload_ahead;
 pub use payload::payload_byte;
 pub use payload::payload_four;
 pub use payload::payload_part;

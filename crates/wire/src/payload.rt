@@ -132,6 +132,22 @@ pub fn payload_four(file: &[u8], off: usize) -> Four
     }
 }
 
+// The same of a step that may not be there: 0 where the file's blocks do not have four bytes from `off` on.
+pub fn payload_ahead(file: &[u8], off: usize) -> Four
+    requires { ⌜ off < 13835058055282163712 ⌝ }
+    ensures { λ r. ⌜ (off + 4 ≤ length (now (file .entry)) / 512 * 504 → FourAt (now (file .entry)) off r) ⌝ }
+{
+    if off + 4 <= file.len() / 512 * 504 {
+        return payload_four(file, off);
+    }
+    Four {
+        first: 0,
+        second: 0,
+        third: 0,
+        fourth: 0,
+    }
+}
+
 // Copies bytes to as many others.
 fn copy_bytes(bytes: &[u8], out: &mut [u8])
     requires { ⌜ length (now bytes) ≡ length (now out) ⌝ }

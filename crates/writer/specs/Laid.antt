@@ -51,13 +51,14 @@ module _ (o : List ℕ) (at n off : ℕ) (e : at ≡ placeOf off) (h : off % 504
   pub word-past : length o ≤ at → o ≡ laidAll o off (u16 n)
   word-past l = sym (set-out o at (n / 256 % 256) l) ∙ word-cut (omega arith)
 
--- three bytes that one block holds stand side by side
-pub laid-three : (o : List ℕ) (off a b c : ℕ) → off % 504 < 502
-    → set (set (set o (placeOf off) a) (placeOf off + 1) b) (placeOf off + 2) c ≡ laidAll o off (a ∷ b ∷ c ∷ [])
-laid-three o off a b c h =
+-- three bytes that one block holds stand side by side, from their place `at` on
+pub laid-three : (o : List ℕ) (at off a b c : ℕ) → at ≡ placeOf off → at % 512 < 508
+    → set (set (set o at a) (at + 1) b) (at + 2) c ≡ laidAll o off (a ∷ b ∷ c ∷ [])
+laid-three o at off a b c e h =
     let g : placeOf off + 2 ≡ placeOf (off + 1 + 1) = omega arith in
-    ap (λ (l : List ℕ). set l (placeOf off + 2) c) (laid-two o off a b (omega arith))
-    ∙ ap (λ (i : ℕ). set (set (set o (placeOf off) a) (placeOf (off + 1)) b) i c) g
+    rw e
+    (ap (λ (l : List ℕ). set l (placeOf off + 2) c) (laid-two o off a b (omega arith))
+    ∙ ap (λ (i : ℕ). set (set (set o (placeOf off) a) (placeOf (off + 1)) b) i c) g)
 
 -- two bytes of a payload have two places
 pub place-apart : (i j : ℕ) → i < j → placeOf i ≡ placeOf j → ⊥

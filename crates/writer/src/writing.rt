@@ -96,12 +96,11 @@ pub fn put_three(out: &mut [u8], off: usize, a: u8, b: u8, c: u8)
     if out.len() <= off {
         return;
     }
-    let within = off % 504;
-    if within > 501 {
+    let at = off + off / 504 * 8 + 6;
+    if at % 512 > 507 {
         put_apart(out, off, a, b, c);
         return;
     }
-    let at = (off / 504) * 512 + 6 + within;
     if out.len() <= at + 2 {
         put_apart(out, off, a, b, c);
         return;

@@ -13,8 +13,8 @@ use Rattle.crossing.proofs.sides.leave_at.Statement.{statement}
 use Rattle.crossing.proofs.sides.leave_at.Tie as tie
 use Rattle.crossing.proofs.sides.leave_at.Reads as reads
 use Rattle.crossing.proofs.sides.leave_at.Lts as lts
+use Rattle.crossing.proofs.sides.leave_in.Reads as leave-in-reads
 use Rattle.motion.proofs.robot_in.Reads as robot-in-reads
-use Rattle.zones.proofs.leave.Reads as leave-reads
 
 robot-in-requires : tie.Need-robot-in-requires
 robot-in-requires c κs = search needs
@@ -56,25 +56,26 @@ element-copy-out-j c = search needs
 cast-j : tie.Need-cast-j
 cast-j c = search needs
 
-element-copy-out-leave : tie.Need-element-copy-out-leave
-element-copy-out-leave c = search needs
+element-copy-out-leave-in : tie.Need-element-copy-out-leave-in
+element-copy-out-leave-in c = search needs
 
-sub-leave : tie.Need-sub-leave
-sub-leave c = search needs
+sub-leave-in : tie.Need-sub-leave-in
+sub-leave-in c = search needs
 
-part-leave-start : tie.Need-part-leave-start
-part-leave-start c = search needs
+part-leave-in-start : tie.Need-part-leave-in-start
+part-leave-in-start c = search needs
 
-part-leave-end : tie.Need-part-leave-end
-part-leave-end c = search needs
+part-leave-in-end : tie.Need-part-leave-in-end
+part-leave-in-end c = search needs
 
-leave-requires : tie.Need-leave-requires
+leave-in-requires : tie.Need-leave-in-requires
 unfolding arrangementOf
-leave-requires c κs =
+leave-in-requires c κs =
     let s = c .before .before .before .before .before .before .before .before .before .before .before .before .before .before .before .before in
     let a = s .args in
     let z : ℕ = getD (a .zone .now) (a .u) 0 in
-    ((rw (part (getD (a .first .now) z 0) (getD (a .size .now) z 0) (a .listed .now)) (s .pre .0 .here .long), rw (part (getD (a .first .now) z 0) (getD (a .size .now) z 0) (a .listed .now)) (s .pre .0 .inside)), (rw (part (getD (a .first .now) z 0) (getD (a .size .now) z 0) (a .listed .now), s .pre .1 .1 .0) (s .pre .0 .here .once), rw (part (getD (a .first .now) z 0) (getD (a .size .now) z 0) (a .listed .now)) (s .pre .1 .0)))
+    let e = part (getD (a .first .now) z 0) (getD (a .size .now) z 0) (a .listed .now) in
+    ((rw e (s .pre .0 .here .long), rw e (s .pre .0 .inside), rw e (s .pre .0 .there)), (rw (e, s .pre .1 .1 .0) (s .pre .0 .here .once), (rw e (s .pre .1 .0), rw e (s .pre .1 .1 .1))))
 
 same-length-2 : tie.Need-same-length-2
 same-length-2 c = search needs
@@ -90,7 +91,7 @@ unfolding arrangementOf
 returns-2 c =
     let a = c .before .before .before .before .before .before .before .before .before .before .before .before .before .before .before .before .before .before .before .before .before .before .before .args in
     let z : ℕ = getD (a .zone .now) (a .u) 0 in
-    c .before .before .before .before .before .before .leave .ensures
+    c .before .before .before .before .before .before .leave-in .ensures
     ∙ ap (λ (vs : List ℕ). madeAll (worldIn (a .robots .now) (a .vertices .now) (a .count) (a .out .now)) (across vs (leaveMoves (kindAt (a .kind .now) (a .zone .now) (a .u)) (arrangementOf (tabled (a .robots .now) (a .vertices .now)) vs) (a .r) (getD (a .place .now) (a .u) 0)))) (part (getD (a .first .now) z 0) (getD (a .size .now) z 0) (a .listed .now))
 
 pub leave-at-spec : {M : Type 1} → statement M
@@ -109,11 +110,11 @@ leave-at-spec =
     add-e
     element-copy-out-j
     cast-j
-    element-copy-out-leave
-    sub-leave
-    part-leave-start
-    part-leave-end
-    leave-requires
+    element-copy-out-leave-in
+    sub-leave-in
+    part-leave-in-start
+    part-leave-in-end
+    leave-in-requires
     same-length-2
     same-length-3
     same-length-4

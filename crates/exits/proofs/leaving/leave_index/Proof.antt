@@ -1,38 +1,39 @@
 use borrow.Author.Needs.{needs}
-use Rattle.exits.specs.Leaving.{found-as, clique-leaves, ring-leaves, hall-leaves}
+use native.Mathlib.Omega.{arith}
+use Rattle.exits.specs.Leaving.{leaver-none, leaver-goes, leaver-stays}
 use Rattle.exits.proofs.leaving.leave_index.Statement.{statement}
 use Rattle.exits.proofs.leaving.leave_index.Tie as tie
-use Rattle.exits.proofs.leaving.hall_index.Reads as hall-index-reads
-use Rattle.exits.proofs.leaving.pinned_index.Reads as pinned-index-reads
+use Rattle.exits.proofs.leaving.can_go.Reads as can-go-reads
+use Rattle.rosters.proofs.finding.index_in.Reads as index-in-reads
 
-pinned-index-requires : tie.Need-pinned-index-requires
-pinned-index-requires c κs = search needs
+index-in-requires : tie.Need-index-in-requires
+index-in-requires c κs = search needs
 
-pinned-index-requires-2 : tie.Need-pinned-index-requires-2
-pinned-index-requires-2 c κs = search needs
+shared-slice-read-x : tie.Need-shared-slice-read-x
+shared-slice-read-x c = search needs
 
-hall-index-requires : tie.Need-hall-index-requires
-hall-index-requires c κs = search needs
+can-go-requires : tie.Need-can-go-requires
+can-go-requires c κs = search needs
 
 returns : tie.Need-returns
 returns c =
-    found-as _ _ _ _ _ _ (clique-leaves _ (c .before .match .keys1) _ _ _ _) (c .pinned-index .ensures)
+    let s = c .before .before .before .before .before .before in
+    let a = s .args in
+    leaver-goes (a .kind) (a .part .now) (a .n) (a .size) (a .r) (a .j) _ (omega (arith, s .pre)) (s .pre .2) (c .before .before .before .before .index-in .ensures) (c .before .before .if1 .taken) (c .if2 .taken) (c .before .can-go .ensures)
 
 returns-2 : tie.Need-returns-2
 returns-2 c =
-    found-as _ _ _ _ _ _ (ring-leaves _ (c .before .match .keys2) _ _ _ _) (c .pinned-index2 .ensures)
+    let s = c .before .before .before .before .before .before in
+    let a = s .args in
+    leaver-stays (a .kind) (a .part .now) (a .n) (a .size) (a .r) (a .j) _ (omega (arith, s .pre)) (s .pre .2) (c .before .before .before .before .index-in .ensures) (c .before .before .if1 .taken) (c .if2 .left) (c .before .can-go .ensures)
 
 returns-3 : tie.Need-returns-3
 returns-3 c =
-    found-as _ _ _ _ _ _ (hall-leaves _ (record { three = c .before .match .rest .0 .1; four = c .before .match .rest .1 }) _ _ _ _) (c .hall-index .ensures)
+    let s = c .before .before .before .before in
+    let a = s .args in
+    leaver-none (a .kind) (a .part .now) (a .n) (a .size) (a .r) (a .j) _ (omega (arith, s .pre)) (s .pre .2) (c .before .before .index-in .ensures) (c .if1 .left)
 
 pub leave-index-spec : {M : Type 1} → statement M
 leave-index-spec =
     tie.close
-    (tie.spec
-    pinned-index-requires
-    pinned-index-requires-2
-    hall-index-requires
-    returns
-    returns-2
-    returns-3)
+    (tie.spec index-in-requires shared-slice-read-x can-go-requires returns returns-2 returns-3)
