@@ -21,8 +21,8 @@ use Rattle.theory.specs.Maps.Cells.{cell-of}
 use Rattle.theory.specs.Zones.Arrangements.{cell-inside}
 use Rattle.theory.specs.Zones.Robots.{same-robots}
 use Rattle.theory.specs.Zones.Crossing.{extraOf}
-use Rattle.motion.specs.World.{World, madeAll, made-none}
-use Rattle.motion.specs.Across.{arrangement-length, arrangement-at, across-nil}
+use Rattle.motion.specs.World.{World, madeAll}
+use Rattle.motion.specs.Across.{arrangement-length, arrangement-at, made-nothing}
 use Rattle.cells.specs.Reading.{eqb-suc, cell-under}
 use Rattle.arranging.specs.Toward.{to-rest}
 
@@ -217,7 +217,8 @@ unfolding cliqueTo
 still zero a g e = refl
 still (suc n) a g e = rw e (to-rest (suc n) g g _ _ (omega arith) refl (omega (arith, open-none g)) refl (off-none g))
 
+-- which is what the code sees where its two arrangements are the same
 pub filled-still : (n : ℕ) (a g cells goal : Arrangement) (vs : List ℕ) (w : World) (b : Bool) → cells ≡ a → goal ≡ g → b ≡ true → b ≡ sameList cells goal
     → w ≡ madeAll w (across vs (cliqueTo n a g))
 filled-still n a g cells goal vs w b e f t s =
-    made-none w _ (ap (across vs) (still n a g (sym e ∙ same→eq cells goal (of-true (sym s ∙ t)) ∙ f)) ∙ across-nil vs)
+    made-nothing w vs _ (still n a g (sym e ∙ same→eq cells goal (of-true (sym s ∙ t)) ∙ f))

@@ -79,30 +79,33 @@ pub record Shifting (p : List ℕ) (t i : ℕ) (q : List ℕ) : Type 0 where
   pub past : (k : ℕ) → i ≤ k → getD q k 0 ≡ getD p k 0
 
 -- none yet
-pub shift-none : (p : List ℕ) (t : ℕ) → Shifting p t t p
-shift-none p t = record { long = refl; under = λ k h. refl; over = λ k h l. absurd (omega arith); past = λ k h. refl }
+pub shift-start : (p : List ℕ) (t i : ℕ) → i ≤ t → Shifting p t i p
+shift-start p t i h = record { long = refl; under = λ k b. refl; over = λ k b d. absurd (omega arith); past = λ k b. refl }
 
--- one more
-pub shift-more : (p : List ℕ) (t i : ℕ) (q : List ℕ) → t ≤ i → i < length p → Shifting p t i q → Shifting p t (i + 1) (set q i (getD q (i + 1) 0))
-shift-more p t i q h l s = record {
-  long = length-set q i _ ∙ s .long;
-  under = λ k b. getD-set-other q i k _ 0 (λ e. omega arith) ∙ s .under k b;
-  over = λ k b d. case k b d (ℕ-discrete k i);
-  past = λ k b. getD-set-other q i k _ 0 (λ e. omega arith) ∙ s .past k (omega arith);
+pub shift-none : (p : List ℕ) (t : ℕ) → Shifting p t t p
+shift-none p t = shift-start p t t (omega arith)
+
+-- one more, chosen: from element t on the next one, before it the one that stands there
+pub shift-choice : (p : List ℕ) (t i x : ℕ) (q : List ℕ) → i < length p → (t ≤ i → x ≡ getD p (i + 1) 0) → (i < t → x ≡ getD p i 0) → Shifting p t i q
+    → Shifting p t (i + 1) (set q i x)
+shift-choice p t i x q l next here s = record {
+  long = length-set q i x ∙ s .long;
+  under = λ k b. low k b (ℕ-discrete k i);
+  over = λ k b d. high k b d (ℕ-discrete k i);
+  past = λ k b. getD-set-other q i k x 0 (λ e. omega arith) ∙ s .past k (omega arith);
 }
   where
-    case : (k : ℕ) → t ≤ k → k < i + 1 → Dec (k ≡ i) → getD (set q i (getD q (i + 1) 0)) k 0 ≡ getD p (k + 1) 0
-    case k b d (yes e) = rw e (getD-set-same q i _ 0 (omega (arith, s .long)) ∙ s .past (i + 1) (omega arith))
-    case k b d (no n) = getD-set-other q i k _ 0 n ∙ s .over k b (omega arith)
+    low : (k : ℕ) → k < t → Dec (k ≡ i) → getD (set q i x) k 0 ≡ getD p k 0
+    low k b (yes e) = rw e (getD-set-same q i x 0 (omega (arith, s .long)) ∙ here (omega arith))
+    low k b (no n) = getD-set-other q i k x 0 n ∙ s .under k b
 
--- of two
-pub shift-pair : (p : List ℕ) (t x : ℕ) → t < 2 → 2 ≤ length p → (t ≡ 0 → x ≡ getD p 1 0) → ((t ≡ 0 → ⊥) → x ≡ getD p 0 0) → Shifting p t 1 (set p 0 x)
-shift-pair p t x h l second first = record {
-  long = length-set p 0 x;
-  under = λ k b. let e : k ≡ 0 = omega arith in rw e (getD-set-same p 0 x 0 (omega arith) ∙ first (λ z. omega arith));
-  over = λ k b d. let e : k ≡ 0 = omega arith in rw e (getD-set-same p 0 x 0 (omega arith) ∙ second (omega arith));
-  past = λ k b. getD-set-other p 0 k x 0 (λ e. omega arith);
-}
+    high : (k : ℕ) → t ≤ k → k < i + 1 → Dec (k ≡ i) → getD (set q i x) k 0 ≡ getD p (k + 1) 0
+    high k b d (yes e) = rw e (getD-set-same q i x 0 (omega (arith, s .long)) ∙ next (omega arith))
+    high k b d (no n) = getD-set-other q i k x 0 n ∙ s .over k b (omega arith)
+
+-- one more, past element t
+pub shift-more : (p : List ℕ) (t i : ℕ) (q : List ℕ) → t ≤ i → i < length p → Shifting p t i q → Shifting p t (i + 1) (set q i (getD q (i + 1) 0))
+shift-more p t i q h l s = shift-choice p t i _ q l (λ b. s .past (i + 1) (omega arith)) (λ b. absurd (omega arith)) s
 
 -- in the part from element t to n
 pub shift-mid : (p s : List ℕ) (n t : ℕ) → t < n → n ≤ length p → Shifting (take (n - t) (drop t p)) 0 (length (take (n - t) (drop t p)) - 1) s → Shifting p t (n - 1) (putMid t (n - t) p s)

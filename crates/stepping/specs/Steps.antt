@@ -242,6 +242,10 @@ module _ (f : List ℕ) (count : ℕ) (kind first size listed zone place : List 
         passes = next-is;
       }
 
+      -- its bytes end in the file
+      pub next-end : o + 4 + e ≤ length f / 512 * 504
+      next-end = stepping-room f o e kind first size listed zone place (w .state) next-step
+
       -- its moves are made
       pub next-made : (u : World) → u ≡ madeAll w (stepMoves (x .map) (take (x .len) (payload f)) o e (w .state)) → Walking (x .map) (x .k) (take (x .len) (payload f)) count w₀ (i + 1) (o + 4 + e) u
       next-made u z = walk-more (x .map) (x .given .accepted) (x .k) (x .given .few) (take (x .len) (payload f)) count w₀ i o w g e u h tests z

@@ -135,7 +135,7 @@ pub fn payload_four(file: &[u8], off: usize) -> Four
 // The same of a step that may not be there: 0 where the file's blocks do not have four bytes from `off` on.
 pub fn payload_ahead(file: &[u8], off: usize) -> Four
     requires { ⌜ off < 13835058055282163712 ⌝ }
-    ensures { λ r. ⌜ (off + 4 ≤ length (now (file .entry)) / 512 * 504 → FourAt (now (file .entry)) off r) ⌝ }
+    ensures { λ r. ⌜ (off + 4 ≤ length (now (file .entry)) / 512 * 504 → FourAt (now (file .entry)) off r) × (length (now (file .entry)) / 512 * 504 < off + 4 → (r .first ≡ 0) × (r .second ≡ 0) × (r .third ≡ 0) × (r .fourth ≡ 0)) ⌝ }
 {
     if off + 4 <= file.len() / 512 * 504 {
         return payload_four(file, off);

@@ -1,5 +1,5 @@
 use borrow.Author.Needs.{needs}
-use Rattle.stepping.specs.Steps.{next-room, next-to, next-is, next-step, next-made, stepping-room}
+use Rattle.stepping.specs.Steps.{next-room, next-to, next-is, next-step, next-made, next-end}
 use Rattle.walking.specs.Walk.{Walking, walk-start, walk-end, walk-over}
 use Rattle.resolve.specs.Whole.{walked-whole, walked-part}
 use Rattle.walking.specs.Given.{Started, kindAt, verticesAt}
@@ -30,7 +30,7 @@ payload-ahead-requires c κs = search needs
 loop-holds : tie.Need-loop-holds Inv-loop μ-loop
 loop-holds c =
     let a = c .before .before .before .before .before .before .args in
-    (refl, search needs, λ x. walk-start (x .map) (x .given .accepted) (x .k) (x .given .few) (take (x .len) (payload (a .file .now))) (a .count) (worldIn (a .robots .now) (a .vertices .now) 0 (a .out .now)) (omega (arith, held-length (a .file .now) (x .len) (x .most), x .two)) (x .consistent), refl, refl, c .payload-ahead .ensures)
+    (refl, search needs, λ x. walk-start (x .map) (x .given .accepted) (x .k) (x .given .few) (take (x .len) (payload (a .file .now))) (a .count) (worldIn (a .robots .now) (a .vertices .now) 0 (a .out .now)) (omega (arith, held-length (a .file .now) (x .len) (x .most), x .two)) (x .consistent), refl, refl, c .payload-ahead .ensures .0)
 
 same-length : tie.Need-same-length Inv-loop μ-loop
 same-length c = search needs
@@ -69,7 +69,7 @@ add-next c =
     let f = l .inv .5 (next-room (a .file .now) (a .count) (a .kind .now) (a .first .now) (a .size .now) (a .listed .now) (a .zone .now) (a .place .now) (worldIn (a .robots .now) (a .vertices .now) 0 (a .out .now)) x (l .i) (l .o) (worldIn (l .robots) (l .vertices) (l .made) (l .out)) g h) in
     let e = c .list-length-at .result in
     let q = c .list-length-at .ensures ∙ ap (extraOf (kindAt (a .kind .now) (a .zone .now) (l .four .third))) (arrangement-alone (l .robots) (l .vertices) (verticesAt (a .first .now) (a .size .now) (a .listed .now) (a .zone .now) (l .four .third))) in
-    omega (arith, stepping-room (a .file .now) (l .o) e (a .kind .now) (a .first .now) (a .size .now) (a .listed .now) (a .zone .now) (a .place .now) (tabled (l .robots) (l .vertices)) (next-step (a .file .now) (a .count) (a .kind .now) (a .first .now) (a .size .now) (a .listed .now) (a .zone .now) (a .place .now) (worldIn (a .robots .now) (a .vertices .now) 0 (a .out .now)) x (l .i) (l .o) (worldIn (l .robots) (l .vertices) (l .made) (l .out)) g h (l .four) f e q))
+    omega (arith, next-end (a .file .now) (a .count) (a .kind .now) (a .first .now) (a .size .now) (a .listed .now) (a .zone .now) (a .place .now) (worldIn (a .robots .now) (a .vertices .now) 0 (a .out .now)) x (l .i) (l .o) (worldIn (l .robots) (l .vertices) (l .made) (l .out)) g h (l .four) f e q)
 
 add-next-2 : tie.Need-add-next-2 Inv-loop μ-loop
 add-next-2 c =
@@ -81,7 +81,7 @@ add-next-2 c =
     let f = l .inv .5 (next-room (a .file .now) (a .count) (a .kind .now) (a .first .now) (a .size .now) (a .listed .now) (a .zone .now) (a .place .now) (worldIn (a .robots .now) (a .vertices .now) 0 (a .out .now)) x (l .i) (l .o) (worldIn (l .robots) (l .vertices) (l .made) (l .out)) g h) in
     let e = c .list-length-at .result in
     let q = c .list-length-at .ensures ∙ ap (extraOf (kindAt (a .kind .now) (a .zone .now) (l .four .third))) (arrangement-alone (l .robots) (l .vertices) (verticesAt (a .first .now) (a .size .now) (a .listed .now) (a .zone .now) (l .four .third))) in
-    omega (arith, stepping-room (a .file .now) (l .o) e (a .kind .now) (a .first .now) (a .size .now) (a .listed .now) (a .zone .now) (a .place .now) (tabled (l .robots) (l .vertices)) (next-step (a .file .now) (a .count) (a .kind .now) (a .first .now) (a .size .now) (a .listed .now) (a .zone .now) (a .place .now) (worldIn (a .robots .now) (a .vertices .now) 0 (a .out .now)) x (l .i) (l .o) (worldIn (l .robots) (l .vertices) (l .made) (l .out)) g h (l .four) f e q))
+    omega (arith, next-end (a .file .now) (a .count) (a .kind .now) (a .first .now) (a .size .now) (a .listed .now) (a .zone .now) (a .place .now) (worldIn (a .robots .now) (a .vertices .now) 0 (a .out .now)) x (l .i) (l .o) (worldIn (l .robots) (l .vertices) (l .made) (l .out)) g h (l .four) f e q)
 
 payload-ahead-requires-2 : tie.Need-payload-ahead-requires-2 Inv-loop μ-loop
 payload-ahead-requires-2 c κs =
@@ -93,7 +93,7 @@ payload-ahead-requires-2 c κs =
     let f = l .inv .5 (next-room (a .file .now) (a .count) (a .kind .now) (a .first .now) (a .size .now) (a .listed .now) (a .zone .now) (a .place .now) (worldIn (a .robots .now) (a .vertices .now) 0 (a .out .now)) x (l .i) (l .o) (worldIn (l .robots) (l .vertices) (l .made) (l .out)) g h) in
     let e = c .list-length-at .result in
     let q = c .list-length-at .ensures ∙ ap (extraOf (kindAt (a .kind .now) (a .zone .now) (l .four .third))) (arrangement-alone (l .robots) (l .vertices) (verticesAt (a .first .now) (a .size .now) (a .listed .now) (a .zone .now) (l .four .third))) in
-    omega (arith, stepping-room (a .file .now) (l .o) e (a .kind .now) (a .first .now) (a .size .now) (a .listed .now) (a .zone .now) (a .place .now) (tabled (l .robots) (l .vertices)) (next-step (a .file .now) (a .count) (a .kind .now) (a .first .now) (a .size .now) (a .listed .now) (a .zone .now) (a .place .now) (worldIn (a .robots .now) (a .vertices .now) 0 (a .out .now)) x (l .i) (l .o) (worldIn (l .robots) (l .vertices) (l .made) (l .out)) g h (l .four) f e q))
+    omega (arith, next-end (a .file .now) (a .count) (a .kind .now) (a .first .now) (a .size .now) (a .listed .now) (a .zone .now) (a .place .now) (worldIn (a .robots .now) (a .vertices .now) 0 (a .out .now)) x (l .i) (l .o) (worldIn (l .robots) (l .vertices) (l .made) (l .out)) g h (l .four) f e q)
 
 make-step-requires : tie.Need-make-step-requires Inv-loop μ-loop
 make-step-requires c κs =
@@ -134,7 +134,7 @@ loop-again c =
           (c .before .before .before .before .before .before .make-step .ensures (x .map) (x .n) (x .k) (x .len) (x .rows) (x .given) (g .consistent) (x .most) (next-is (a .file .now) (a .count) (a .kind .now) (a .first .now) (a .size .now) (a .listed .now) (a .zone .now) (a .place .now) (worldIn (a .robots .now) (a .vertices .now) 0 (a .out .now)) x (l .i) (l .o) (worldIn (l .robots) (l .vertices) (l .made) (l .out)) g h (l .four) f e q)),
       search needs,
       search needs,
-      c .before .before .before .before .before .before .before .before .before .before .payload-ahead2 .ensures,
+      c .before .before .before .before .before .before .before .before .before .before .payload-ahead2 .ensures .0,
     )
 
 same-length-4 : tie.Need-same-length-4 Inv-loop μ-loop

@@ -1,7 +1,7 @@
 use borrow.Author.Needs.{needs}
 use native.Mathlib.Omega.{arith}
 use Prim.Native.Nat.{_-_}
-use Rattle.rosters.specs.Lists.{shift-none, shift-pair, shift-mid, shift-all}
+use Rattle.rosters.specs.Lists.{shift-start, shift-none, shift-choice, shift-mid, shift-all}
 use Rattle.rosters.proofs.lists.remove.Statement.{statement}
 use Rattle.rosters.proofs.lists.remove.Tie as tie
 use Rattle.rosters.proofs.lists.kept_first.Reads as kept-first-reads
@@ -32,7 +32,7 @@ returns-2 : tie.Need-returns-2
 returns-2 c =
     let s = c .before .before .before .before .before .before in
     let a = s .args in
-    shift-all (a .part .now) (a .n) (a .t) 1 _ (s .pre .0) (s .pre .1) (omega arith) (omega arith) (shift-pair (a .part .now) (a .t) _ (omega arith) (omega arith) (c .kept-first .ensures .0) (c .kept-first .ensures .1))
+    shift-all (a .part .now) (a .n) (a .t) 1 _ (s .pre .0) (s .pre .1) (omega arith) (omega arith) (shift-choice (a .part .now) (a .t) 0 _ (a .part .now) (omega arith) (λ h. c .kept-first .ensures .0 (omega arith)) (λ h. c .kept-first .ensures .1 (λ z. omega arith)) (shift-start (a .part .now) (a .t) 0 (omega arith)))
 
 sub-shift-down : tie.Need-sub-shift-down
 sub-shift-down c = search needs
