@@ -1,4 +1,6 @@
 // Adjacency: one row of two words for each of 128 vertices (document 01, "there is an edge between every two of its points").
+#![tactic(auto)]
+
 ghost use Rattle.std.specs.Prelude.{◌≡◌, ◌*◌, ◌<◌};
 ghost use Rattle.adjacency.specs.Rows.{bit_at, put_bit, blank, join};
 

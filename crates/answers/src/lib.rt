@@ -1,4 +1,6 @@
 // An answer finished in place, in the buffer where its payload stands: heads, fill, padding, checksums (document 01, "Block files").
+#![tactic(auto)]
+
 ghost use Rattle.std.specs.Prelude.{◌≡◌, ◌++◌, ◌⊎◌, ◌+◌, ◌-◌, ◌*◌, ◌/◌, ◌≤◌, length, take, drop, replicate};
 ghost use Rattle.spec.specs.Wire.{block_of, file_of};
 ghost use Rattle.wire.specs.Payload.{payload};
@@ -7,7 +9,7 @@ ghost use Rattle.answers.specs.Delivered.{answered, delivered_of};
 use checksum::checksum_at;
 
 // What a service returns of its answer: number 0 and the bytes written, or a refusal's number and place.
-#[derive(Drop)]
+#[derive(Clone, Copy)]
 pub struct Delivered {
     pub number: u32,
     pub value: u32,

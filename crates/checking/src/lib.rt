@@ -1,4 +1,6 @@
 // What a file is (document 01, "Block files"): each block's checksum, its head, its fill and padding, blocks in order.
+#![tactic(auto)]
+
 ghost use Rattle.std.specs.Prelude.{◌≡◌, Bool, true, false, ℕ, ◌+◌, ◌-◌, ◌≤◌, length, take, drop, eqb};
 ghost use Rattle.spec.specs.Outcome.{all};
 ghost use Rattle.spec.specs.Wire.{head_ok, filled, fill_ok, payload_of};
@@ -8,7 +10,7 @@ ghost use Rattle.checking.specs.Checked.{checked_of, Held};
 use checksum::{total, word_at};
 
 // What a file is: a payload of so many bytes, or which of document 01's four refusals at which block.
-#[derive(Drop)]
+#[derive(Clone, Copy)]
 pub enum Checked {
     Payload(usize),
     Length,

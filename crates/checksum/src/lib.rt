@@ -1,4 +1,6 @@
 // The Internet checksum (RFC 1071) of a block: summed in a wide number, folded once at the end.
+#![tactic(auto)]
+
 ghost use Rattle.std.specs.Prelude.{◌≡◌, ◌+◌, ◌*◌, ◌<◌, ◌≤◌, length, take, drop};
 ghost use Rattle.spec.specs.Wire.{word, sum_words, checksum};
 ghost use Rattle.checksum.specs.Sum.{folded, little};

@@ -1,4 +1,6 @@
 // Two arrangements in cells, compared.
+#![tactic(auto)]
+
 ghost use Rattle.std.specs.Prelude.{◌≡◌, length};
 ghost use Rattle.spec.specs.Outcome.{same_list};
 ghost use Rattle.spec.specs.Arrangement.{order};

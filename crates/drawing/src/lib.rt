@@ -1,4 +1,6 @@
 // The plan drawn from a checked list: a step for each move between zones.
+#![tactic(auto)]
+
 ghost use Rattle.std.specs.Prelude.{◌≡◌, ℕ, ◌+◌, ◌≤◌, ◌<◌};
 ghost use Rattle.spec.specs.Layout.{Map};
 ghost use Rattle.spec.specs.Arrangement.{mv};
@@ -17,7 +19,7 @@ use numbering::{Robot, Vertex};
 use wire::Three;
 
 // How many steps are drawn, and the payload offset after them.
-#[derive(Drop)]
+#[derive(Clone, Copy)]
 pub struct Drawn {
     pub steps: usize,
     pub bytes: usize,

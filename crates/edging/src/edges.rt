@@ -6,7 +6,7 @@ use wire::next_place;
 use zoning::MapFault;
 
 // Where the second byte of a pair of payload bytes stands, and where the next pair begins.
-#[derive(Drop)]
+#[derive(Clone, Copy)]
 pub struct Pair {
     pub behind: usize,
     pub next: usize,

@@ -2,5 +2,7 @@
 //
 //     leaving   who can leave a zone, by its list
 //     goals     a zone's goals, by its list
+#![tactic(auto)]
+
 pub mod goals;
 pub mod leaving;

@@ -1,6 +1,8 @@
 // Halls and stacks in motion (document 01, "Which moves are written"): leaving, entering and ending.
 //
 //     trips   robots sent from place to place
+#![tactic(auto)]
+
 ghost use Rattle.std.specs.Prelude.{◌≡◌, ◌≤◌, ◌<◌, min, length};
 ghost use Rattle.spec.specs.Hall.{hall_leave, hall_enter, hall_end};
 ghost use Rattle.spec.specs.State.{across, arrangement_of};

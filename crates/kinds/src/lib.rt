@@ -1,4 +1,6 @@
 // Whether a zone is of its kind (document 01, "Zones and configurations"), tested on the rows of the adjacency.
+#![tactic(auto)]
+
 ghost use Rattle.std.specs.Prelude.{◌≡◌, ◌+◌, ◌<◌, ◌≤◌};
 ghost use Rattle.spec.specs.Layout.{linked, same_bool};
 ghost use Rattle.kinds.specs.Words.{out_from};

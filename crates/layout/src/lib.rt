@@ -2,6 +2,8 @@
 //
 //     map      the whole map
 //     tables   the tables of a map that was read, indexed by a vertex or a zone and by nothing else
+#![tactic(auto)]
+
 pub mod map;
 pub mod tables;
 
@@ -11,7 +13,7 @@ use zoning::MapFault;
 
 // A map, or why it is refused. Zone z has the kind kind[z] and the vertices listed[first[z]] to listed[first[z] + size[z] - 1];
 // vertex v stands in zone zone[v] at place place[v].
-#[derive(Drop)]
+#[derive(Clone, Copy)]
 pub struct MapRead {
     pub fault: MapFault,
     pub vertices: u8,

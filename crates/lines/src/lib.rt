@@ -2,6 +2,8 @@
 //
 //     fields   numbers and words
 //     moves    the lines of moves and of a refusal
+#![tactic(auto)]
+
 mod fields;
 mod moves;
 

@@ -1,4 +1,6 @@
 // The state, one move, and the counted and written move.
+#![tactic(auto)]
+
 ghost use Rattle.std.specs.Prelude.{◌≡◌, min, length, set, get_or, take};
 ghost use Rattle.spec.specs.Arrangement.{mv};
 ghost use Rattle.spec.specs.State.{robot_on};
@@ -10,7 +12,7 @@ use numbering::{Robot, Vertex};
 use writer::put_three;
 
 // The robot on each vertex and the vertex of each robot; 255 is no robot, and no vertex.
-#[derive(Drop)]
+#[derive(Clone, Copy)]
 pub struct State {
     pub robots: [Robot; 128],
     pub vertices: [Vertex; 64],

@@ -1,4 +1,6 @@
 // The bytes of a step, laid into the answer.
+#![tactic(auto)]
+
 ghost use Rattle.std.specs.Prelude.{◌≡◌, ◌+◌, ◌≤◌, ◌<◌, length};
 ghost use Rattle.writer.specs.Laid.{laid_all};
 ghost use Rattle.motion.specs.Tables.{on_vertices};

@@ -1,1 +1,2 @@
 // A zone's configuration as the list of its robots: definitions and laws.
+#![tactic(auto)]

@@ -1,4 +1,6 @@
 // A placing read from its file, accepted or refused (document 01, "Block files").
+#![tactic(auto)]
+
 ghost use Rattle.std.specs.Prelude.{◌≡◌, not, ◌≤◌, get_or, eqb, ltb};
 ghost use Rattle.spec.specs.Outcome.{◌&&◌};
 ghost use Rattle.spec.specs.Layout.{Map, placing_of};
@@ -8,7 +10,7 @@ ghost use Rattle.placing.specs.Fault.{sound_of};
 ghost use Rattle.placing.specs.Placing.{placing_in, Nothing, RobotsAre, PlacingIs};
 
 // Why a placing is refused, with the block or the payload offset; None where it is accepted.
-#[derive(Drop)]
+#[derive(Clone, Copy)]
 pub enum PlacingFault {
     None,
     Length,
@@ -22,7 +24,7 @@ pub enum PlacingFault {
 }
 
 // A placing, or why it is refused. Robot r starts on vertex starts[r] and its goal is goals[r].
-#[derive(Drop)]
+#[derive(Clone, Copy)]
 pub struct PlacingRead {
     pub fault: PlacingFault,
     pub robots: u8,

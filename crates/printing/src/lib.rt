@@ -2,6 +2,8 @@
 //
 //     files     the listing of three files
 //     program   the files read, the listing written
+#![tactic(auto)]
+
 mod files;
 mod program;
 

@@ -10,7 +10,7 @@ use motion::{least, robot_in, robot_on};
 use numbering::{Robot, Vertex};
 
 // How many robots stand in a zone, and how many of them below the named one; all, where it is not among them.
-#[derive(Drop)]
+#[derive(Clone, Copy)]
 struct Count {
     lower: usize,
     all: usize,

@@ -1,4 +1,6 @@
 // Document 01's number and place for each case of the readers' and checkers' answers.
+#![tactic(auto)]
+
 ghost use Rattle.std.specs.Prelude.{◌≡◌, ℕ, List};
 ghost use Rattle.spec.specs.Layout.{Map, Placing};
 ghost use Rattle.zoning.specs.Fault as mapFault;
@@ -16,7 +18,7 @@ use testing::PlanFault;
 use zoning::MapFault;
 
 // A refusal's number and place; number 0 is no refusal.
-#[derive(Drop)]
+#[derive(Clone, Copy)]
 pub struct Refusal {
     pub number: u32,
     pub place: usize,

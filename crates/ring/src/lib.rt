@@ -1,6 +1,8 @@
 // Rings in motion (document 01, "Which moves are written"): leaving, entering, and the goals.
 //
 //     ending    the lowest-numbered robot, and the other places as a hall
+#![tactic(auto)]
+
 ghost use Rattle.std.specs.Prelude.{◌≡◌, true, ◌≤◌, ◌<◌, length};
 ghost use Rattle.spec.specs.Ring.{ring_can_leave, ring_leave, ring_enter, ring_can_end, ring_end};
 ghost use Rattle.spec.specs.State.{across, arrangement_of};

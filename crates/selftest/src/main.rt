@@ -3,6 +3,8 @@
 //
 //     files    the files of the checks
 //     report   the lines
+#![tactic(auto)]
+
 ghost use Rattle.std.specs.Prelude.{◌≤◌};
 
 mod files;

@@ -1,4 +1,6 @@
 // The rounds of a move list: last rounds are kept by robot and by vertex left, so that each move is looked at once.
+#![tactic(auto)]
+
 ghost use Rattle.std.specs.Prelude.{◌≡◌, [], ◌<◌, max};
 ghost use Rattle.spec.specs.State.{word_bytes, rounds_from};
 ghost use Rattle.writer.specs.Laid.{laid_all};

@@ -12,7 +12,7 @@ use numbering::{Robot, Vertex};
 use tabling::placing::first_free;
 
 // A move: a robot goes from one vertex to another.
-#[derive(Drop)]
+#[derive(Clone, Copy)]
 struct Move {
     robot: Robot,
     from: Vertex,

@@ -1,6 +1,8 @@
 // Payloads of block files (document 01, "Block files"), read where they stand.
 //
 //     payload    the bytes of a payload, read from the file
+#![tactic(auto)]
+
 pub mod payload;
 
 pub use payload::{
@@ -9,7 +11,7 @@ pub use payload::{
 };
 
 // Three bytes of a payload that stand one after the other, as those of a move.
-#[derive(Drop)]
+#[derive(Clone, Copy)]
 pub struct Three {
     pub first: u8,
     pub second: u8,
@@ -17,7 +19,7 @@ pub struct Three {
 }
 
 // Four bytes of a payload that stand one after the other, as those of a step.
-#[derive(Drop)]
+#[derive(Clone, Copy)]
 pub struct Four {
     pub first: u8,
     pub second: u8,

@@ -2,11 +2,13 @@
 //
 //     heads    the counts, and a zone's kind and size
 //     zones    the zones' vertices in listed order, and the zone and place of each vertex
+#![tactic(auto)]
+
 pub mod heads;
 pub mod zones;
 
 // Why a map is refused whose blocks have passed, with the payload offset or the zone; None where it is accepted.
-#[derive(Drop)]
+#[derive(Clone, Copy)]
 pub enum MapFault {
     None,
     Short(usize),
@@ -17,7 +19,7 @@ pub enum MapFault {
 }
 
 // How many vertices and zones there are, or why not.
-#[derive(Drop)]
+#[derive(Clone, Copy)]
 pub struct CountsRead {
     pub fault: MapFault,
     pub vertices: u8,
@@ -25,7 +27,7 @@ pub struct CountsRead {
 }
 
 // A zone's kind and size, or why not.
-#[derive(Drop)]
+#[derive(Clone, Copy)]
 pub struct HeadRead {
     pub fault: MapFault,
     pub kind: u8,
@@ -33,7 +35,7 @@ pub struct HeadRead {
 }
 
 // The zones, and the offset after them, or why not.
-#[derive(Drop)]
+#[derive(Clone, Copy)]
 pub struct ZonesRead {
     pub fault: MapFault,
     pub next: usize,
