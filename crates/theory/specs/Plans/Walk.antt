@@ -87,7 +87,11 @@ walk_ran s o ss xs = record { state = moved_all s xs; moves = xs; next = o + len
 -- a walk is read from the bytes of its steps
 pub walk_read : (m : Map) (k : ℕ) {s : State} {ss : List Step} {xs : List Move} → Walk m k s ss xs → (p : List ℕ) (i o : ℕ) (rest : List ℕ) → drop o p ≡ step_bytes ss ++ rest
     → steps_from m k p (length ss) i o s ≡ ok (walk_ran s o ss xs)
-walk_read m k (halt {s}) p i o rest e = unfold steps_from step_bytes moved_all in ap (λ n. ok (record { state = s; moves = []; next = n })) (sym (add-zero o))
+walk_read m k (halt {s}) p i o rest e = ended s
+  where
+    ended : (q : State) → steps_from m k p 0 i o q ≡ ok (walk_ran q o [] [])
+    ended q = unfold steps_from step_bytes moved_all in ap (λ n. ok (record { state = q; moves = []; next = n })) (sym (add-zero o))
+
 walk_read m k (walk {s} {r} {u} {v} {behind} {list} {ss} {xs} t w) p i o rest e = further (walk_read m k w p (i + 1) (o + 4 + length list) rest one.1)
   where
     ms : List Move

@@ -251,7 +251,7 @@ small_map p h = small_bind 65536 _ _ (small_counts p) (λ c ec.
     let w = zones_few p c zs h l ez in
     small_bind 65536 _ _ (small_bind 65536 _ _ (small_word 65536 15 p zs.next (omega (arith, w.1))) (λ e ee. small_test 65536 _ _ _ _ (omega (arith, w.1))
     (λ t. let d = leb→le e 2048 t in small_bind 65536 _ _ (small_edges 65536 c.vertices p e (zs.next + 2) 0 [] (omega (arith, w.1))) (λ es f. small_test 65536 _ _ _ _ (omega (arith, w.1)) (λ u. tt)))))
-    (λ es ee. small_seq 65536 _ _ (small_kinds 65536 _ 0 zs.it (omega (arith, w.0))) tt)))
+    (λ es ee. small_seq 65536 _ _ (small_kinds 65536 (record { size = c.vertices; zones = zs.it; edges = es }) 0 zs.it (omega (arith, w.0))) tt)))
 
 -- starts and goals: the place is the offset of one
 small_robots : (b n : ℕ) (p : List ℕ) (todo o : ℕ) (ss gs : List ℕ) → o + todo * 2 ≤ b → Small b (read_robots n p todo o ss gs)

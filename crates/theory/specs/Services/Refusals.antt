@@ -153,7 +153,7 @@ numbered_map p =
     then_read _ _ (numbered_counts p)
     (λ c. then_read _ _ (then_read _ _ (numbered_zones c.vertices p c.zones 2 [] []) (λ zs. test _ _ _ _ tt tt))
     (λ zs. then_read _ _ (then_read _ _ (numbered_word map_numbers 15 p zs.next tt) (λ e. test _ _ _ _ tt (then_read _ _ (numbered_edges c.vertices p e (zs.next + 2) 0 []) (λ es. test _ _ _ _ tt tt))))
-    (λ es. numbered_seq map_numbers _ _ (numbered_kinds _ 0 zs.it) tt)))
+    (λ es. numbered_seq map_numbers _ _ (numbered_kinds (record { size = c.vertices; zones = zs.it; edges = es }) 0 zs.it) tt)))
 
 -- the robots of a placing
 numbered_robots : (n : ℕ) (p : List ℕ) (todo o : ℕ) (ss gs : List ℕ) → Numbered map_numbers (read_robots n p todo o ss gs)
@@ -204,7 +204,7 @@ numbered_resolved m pl p = numbered_bind plan_numbers _ _ (numbered_count plan_n
 -- and of a plan
 pub numbered_plan : (a b c : List ℕ) → Numbered plan_numbers (plan_moves a b c)
 unfolding plan_moves member
-numbered_plan a b c = numbered_bind plan_numbers _ _ (numbered_left map_numbers _ (instance_of a b) (numbered_instance a b))
+numbered_plan a b c = numbered_bind plan_numbers _ _ (numbered_left map_numbers (31 ∷ 32 ∷ 33 ∷ 34 ∷ 35 ∷ 36 ∷ 37 ∷ 38 ∷ 39 ∷ 50 ∷ []) (instance_of a b) (numbered_instance a b))
     (λ it. numbered_bind plan_numbers _ _ (numbered_payload plan_numbers 30 3 tt tt tt 64 c tt) (λ p. numbered_resolved it.graph it.placing p))
 
 -- ---- move lists: 41 to 48 and 51

@@ -1,5 +1,5 @@
 -- Move lists as files: what drawing and rounds accept is a legal list to the goals, and every such list that fits is accepted.
-use Rattle.std.specs.Prelude.{◌≡◌, List, ℕ, ◌*◌, ◌≤◌, length}
+use Rattle.std.specs.Prelude.{[], ◌∷◌, ◌≡◌, List, ℕ, ◌*◌, ◌≤◌, length}
 use Rattle.std.proofs.Math.Path.{refl}
 use Rattle.std.proofs.Common.{sym, ap, ◌∙◌, arith}
 use Rattle.spec.specs.Outcome.{Outcome, ok, refuse, ◌>>=◌}
@@ -72,7 +72,7 @@ rounds_is a b c room = ap (answer_of room) (replay_then a b c (λ it ms. fits 5 
 -- its refusals are of the table
 pub numbered_replay : (a b c : List ℕ) → Numbered list_numbers (replay a b c)
 unfolding replay
-numbered_replay a b c = numbered_bind list_numbers _ _ (numbered_left map_numbers _ (instance_of a b) (numbered_instance a b))
+numbered_replay a b c = numbered_bind list_numbers _ _ (numbered_left map_numbers (41 ∷ 42 ∷ 43 ∷ 44 ∷ 45 ∷ 46 ∷ 47 ∷ 48 ∷ 51 ∷ []) (instance_of a b) (numbered_instance a b))
     (λ it. numbered_bind list_numbers _ _ (numbered_list c) (λ p. numbered_bind list_numbers _ _ (numbered_checked it.graph it.placing p) (λ ms. tt)))
 
 -- a list that is accepted is legal, reaches the goals and is the file

@@ -163,7 +163,11 @@ cells_places : (k : ℕ) (a : Arrangement) → cells (k + length a) (order a) (p
 unfolding cells order places
 cells_places k [] = rw (add-zero, append-nil)
 cells_places k (zero ∷ a) = rw (add-suc, ← suc-add) (cells_places (suc k) a ∙ empty_snoc k a)
-cells_places k (suc c ∷ a) = rw (add-suc, ← suc-add, cells_places (suc k) a ∙ empty_snoc k a) (set_at (replicate k 0) 0 a (suc c) k (length-replicate k 0))
+cells_places k (suc c ∷ a) =
+    let e : k + length (suc c ∷ a) ≡ suc k + length a = omega arith in
+    ap (λ n. cells n (order (suc c ∷ a)) (places k (suc c ∷ a))) e
+    ∙ ap (λ (l : Arrangement). set l k (suc c)) (cells_places (suc k) a ∙ empty_snoc k a)
+    ∙ set_at (replicate k 0) 0 a (suc c) k (length-replicate k 0)
 
 -- an arrangement is its robots at their places
 pub cells_order : (a : Arrangement) → cells (length a) (order a) (places 0 a) ≡ a

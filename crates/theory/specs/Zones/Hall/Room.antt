@@ -1,5 +1,5 @@
 -- Halls: the targets of leaving and entering rise where there is room.
-use Rattle.std.specs.Prelude.{◌≡◌, refl, List, [], ◌∷◌, ◌++◌, ℕ, ◌+◌, ◌≤◌, suc, ◌<◌, max, length, T, leb, ltb}
+use Rattle.std.specs.Prelude.{◌≡◌, refl, List, [], ◌∷◌, ◌++◌, ℕ, ◌+◌, ◌-◌, ◌≤◌, suc, ◌<◌, min, max, length, T, leb, ltb}
 use Rattle.std.proofs.Common.{ap, arith, leb→le, ltb→lt, le→leb, lt→ltb}
 use Rattle.spec.specs.Hall.{below, above, room}
 use Rattle.theory.specs.Basics.Tests.{and_left, and_right, and_both}
@@ -9,7 +9,7 @@ use Rattle.theory.specs.Zones.Hall.Places.{rising_cut, Rising, rest, rise, end, 
 rising_below : {lo u hi : ℕ} (j : ℕ) {ps : List ℕ} → Rising u hi ps → lo ≤ u → lo + length ps ≤ j → Rising lo j (below j ps)
 unfolding below
 rising_below j (rest h) k f = end (omega arith)
-rising_below j (rise h r) k f = omega arith ◃ rising_below j r (omega arith) (omega arith)
+rising_below {lo} j (rise {p = p} {ps = ps} h r) k f = omega arith ◃ rising_below {lo = suc (min p (j - suc (length ps)))} j r (omega arith) (omega arith)
 
 -- so do those of the first of the places
 pub rising_lower : {m : ℕ} (j : ℕ) (ps qs : List ℕ) → Rising 0 m (ps ++ qs) → length ps ≤ j → Rising 0 j (below j ps)
@@ -19,7 +19,7 @@ rising_lower j ps qs r h = rising_below {lo = 0} j (rising_cut ps r).0 (omega ar
 pub rising_above : {lo u m : ℕ} (j : ℕ) {qs : List ℕ} → Rising u m qs → lo ≤ max u (suc j) → j + length qs < m → Rising lo m (above j qs)
 unfolding above
 rising_above j (rest h) k f = end (omega arith)
-rising_above j (rise h r) k f = omega arith ◃ rising_above (suc j) r (omega arith) (omega arith)
+rising_above {lo} j (rise {p = p} h r) k f = omega arith ◃ rising_above {lo = suc (max p (suc j))} (suc j) r (omega arith) (omega arith)
 
 -- there is a target for each robot below
 pub length_below : (j : ℕ) (ps : List ℕ) → length (below j ps) ≡ length ps

@@ -90,7 +90,7 @@ low t = min t.from t.to
 -- the lower places of the trips rise
 rising_low : {lo u v hi : ℕ} (ts : List Trip) → lo ≤ u → lo ≤ v → Rising u hi (map (λ t. t.from) ts) → Rising v hi (map (λ t. t.to) ts) → Rising lo hi (map low ts)
 rising_low [] h k (rest r) (rest s) = end (omega arith)
-rising_low (t ∷ ts) h k (rise r rs) (rise s ss) = omega arith ◃ rising_low ts (omega arith) (omega arith) rs ss
+rising_low {lo} {u} {v} {hi} (t ∷ ts) h k (rise r rs) (rise s ss) = omega arith ◃ rising_low {lo = suc (low t)} {u = suc t.from} {v = suc t.to} {hi = hi} ts (omega arith) (omega arith) rs ss
 
 -- moves above a place do not touch it
 apart : {p : ℕ} {ms : List Move} → Each (AtLeast (suc p)) ms → Each (Apart p) ms
@@ -117,20 +117,20 @@ module _ {m : ℕ} where
   run_lowering : {kind : ℕ} {u v : ℕ} (ts : List Trip) → Rising u m (map (λ t. t.from) ts) → Rising v m (map (λ t. t.to) ts) → Runs kind (lowering ts) (standing m (λ t. t.from) ts) (standing m low ts)
   unfolding lowering cells Empty
   run_lowering [] r s = done
-  run_lowering (t ∷ ts) (rise r rs) (rise s ss) =
+  run_lowering {kind} {u} {v} (t ∷ ts) (rise r rs) (rise s ss) =
       let cs = map (λ t. t.robot) ts in
       runs_append
       (walk_down t.robot t.from t.to (standing m (λ t. t.from) ts) (λ i l u. rising_empty m cs rs i (omega arith)) (omega (arith, length_cells m cs (map (λ t. t.from) ts), rising_top rs)))
-      (frame (suc t.robot) (apart (lowering_least ts (rising_low ts (omega arith) (omega arith) rs ss))) (run_lowering ts rs ss))
+      (frame (suc t.robot) (apart (lowering_least ts (rising_low ts (omega arith) (omega arith) rs ss))) (run_lowering {kind = kind} {u = suc t.from} {v = suc t.to} ts rs ss))
 
   -- the raising pass takes every robot from there to its target
   run_raising : {kind : ℕ} {u v : ℕ} (ts : List Trip) → Rising u m (map low ts) → Rising v m (map (λ t. t.to) ts) → Runs kind (raising ts) (standing m low ts) (standing m (λ t. t.to) ts)
   unfolding raising cells Empty
   run_raising [] r s = done
-  run_raising (t ∷ ts) (rise r rs) (rise s ss) =
+  run_raising {kind} {u} {v} (t ∷ ts) (rise r rs) (rise s ss) =
       let cs = map (λ t. t.robot) ts in
       runs_append
-      (frame (suc t.robot) (apart (raising_least ts rs)) (run_raising ts rs ss))
+      (frame (suc t.robot) (apart (raising_least ts rs)) (run_raising {kind = kind} {u = suc (low t)} {v = suc t.to} ts rs ss))
       (walk_up t.robot t.from t.to (standing m (λ t. t.to) ts) (λ i l u. rising_empty m cs ss i (omega arith)) (omega (arith, length_cells m cs (map (λ t. t.to) ts), rising_top ss)))
 
   -- the written moves take every robot from its place to its goal
