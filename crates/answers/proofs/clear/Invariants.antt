@@ -1,0 +1,17 @@
+-- `clear`: at each turn, the bytes passed are zero and the others as they were.
+use mathlib.Core.List.{List}
+use Rattle.answers.specs.Made.{cleared, cleared_none, cleared_more}
+use borrow.Author.Rules.{rules}
+use native.Mathlib.Omega.{arith}
+use Prim.Native.Nat.{ℕ, ◌-◌, ◌≤◌}
+use mathlib.Core.Path.{◌≡◌, refl, ap, ◌∙◌}
+use lib.ListN.{length, set, length-set}
+use Rattle.answers.proofs.clear.Given as goal
+
+-- `clear`: at each turn, the bytes passed are zero and the others as they were.
+
+abbrev pub invariant-loop-o : goal.invariant-loop-o
+invariant-loop-o l = (l.from ≤ l.o) × (l.o ≤ l.end) × (length l.out ≡ length l.initial.out) × (l.out ≡ cleared l.initial.out l.from l.o)
+
+abbrev pub decreases-loop-o : goal.decreases-loop-o
+decreases-loop-o l = l.end - l.o

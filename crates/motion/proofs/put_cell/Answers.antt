@@ -1,0 +1,7 @@
+use mathlib.Core.Path.{◌≡◌, refl, ap, sym, ◌∙◌}
+use lib.Seq.{set_out}
+use borrow.Author.Rules.{rules}
+use Rattle.motion.proofs.put_cell.Goals as goal
+
+pub returns-else-i-cells : goal.returns-else-i-cells
+returns-else-i-cells c = sym (set_out _ _ _ c.if-i-cells.false)
