@@ -23,7 +23,7 @@ pub overflow_add-t : goal.overflow_add-t
 overflow_add-t c =
     let l = c.line_up-n in
     let x : l.result ≤ 128 = omega (arith, l.ensures.short, arrangement_length (on_vertices c.args.robots.now) c.args.zone.now, c.requires) in
-    let rs = l.new.1.1.0 in
+    let rs = l.new.line in
     omega (arith, c.index_of-t.ensures, index_most c.args.r.0 (take l.result rs), length-take l.result rs)
 
 pub spread-requires : goal.spread-requires

@@ -9,4 +9,4 @@ pub wrapping_sub_u8-requires : goal.wrapping_sub_u8-requires
 wrapping_sub_u8-requires c = tt
 
 pub returns : goal.returns
-returns c = off_number c.args.x c.args.y c.wrapping_sub_u8.result c.if-x-y.false (omega arith) c.wrapping_sub_u8.ensures
+returns c = off_number c.args.x c.args.y c.wrapping_sub_u8.result c.if-x-y.false (omega arith) c.wrapping_sub_u8.ensures.value

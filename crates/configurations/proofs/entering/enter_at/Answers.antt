@@ -17,4 +17,4 @@ returns-in_default c =
     λ behind list e.
     let a = c.args in
     let q : length (take a.n a.part.now) ≡ a.n = length-take-le a.n a.part.now (omega (arith, c.requires)) in
-    put_as _ _ _ _ _ (inserted a.kind a.size (take a.n a.part.now) a.r a.j behind list a.t c.in_default.rest.1 (λ k z. c.requires.5 k (omega (arith, q))) e) (wider a.size (omega (arith, c.requires)) c.insert.ensures)
+    put_as _ _ _ _ _ (inserted a.kind a.size (take a.n a.part.now) a.r a.j behind list a.t c.in_default.in_default-own.rest.1 (λ k z. c.requires.5 k (omega (arith, q))) e) (wider a.size (omega (arith, c.requires)) c.insert.ensures)

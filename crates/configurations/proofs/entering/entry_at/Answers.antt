@@ -22,4 +22,4 @@ returns-in-4 c =
 pub returns-in_default : goal.returns-in_default
 returns-in_default c =
     λ r list.
-    found_as _ _ _ _ _ _ (hall_enters_lem _ (record { three = c.in_default.rest.0.1; four = c.in_default.rest.1 }) _ _ r _ _ list) (hall_index _ (record { three = c.in_default.rest.0.1; four = c.in_default.rest.1 }) _ _) c.hall_entry.ensures
+    found_as _ _ _ _ _ _ (hall_enters_lem _ (record { three = c.in_default.in_default-own.rest.0.1; four = c.in_default.in_default-own.rest.1 }) _ _ r _ _ list) (hall_index _ (record { three = c.in_default.in_default-own.rest.0.1; four = c.in_default.in_default-own.rest.1 }) _ _) c.hall_entry.ensures

@@ -23,4 +23,4 @@ returns-in-4 c =
 
 pub returns-in_default : goal.returns-in_default
 returns-in_default c =
-    c.same_cells.ensures ∙ hall_ends _ (record { three = c.in_default.rest.0.1; four = c.in_default.rest.1 }) _ _ _
+    c.same_cells.ensures ∙ hall_ends _ (record { three = c.in_default.in_default-own.rest.0.1; four = c.in_default.in_default-own.rest.1 }) _ _ _

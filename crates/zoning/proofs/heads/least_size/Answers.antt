@@ -21,4 +21,4 @@ unfolding least_of least_size ◌&&◌
 returns-in-4 c = least_at _ 4 c.in-4.is
 
 pub returns-in_default : goal.returns-in_default
-returns-in_default c = least_none _ c.in_default.rest.0.0.0.1 c.in_default.rest.0.0.1 c.in_default.rest.0.1 c.in_default.rest.1
+returns-in_default c = least_none _ c.in_default.in_default-own.rest.0.0.0.1 c.in_default.in_default-own.rest.0.0.1 c.in_default.in_default-own.rest.0.1 c.in_default.in_default-own.rest.1

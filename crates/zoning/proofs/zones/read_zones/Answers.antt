@@ -58,7 +58,7 @@ loop-i-preserved c =
     let r = c.read_vertices-fault in
     let t = sym c.sound-in-loop-i.ensures ∙ c.if-not-sound-2.false in
     let e = given _ h.result.fault (head_in h.result) h.ensures (sym c.sound.ensures ∙ c.if-not-sound.false) in
-    let n : Table = table_of (o.used + h.result.size) r.new.1.1.1.1.1.1.1.0 r.new.1.1.1.1.1.1.1.1.0 r.new.1.1.1.1.1.1.1.1.1.0 in (
+    let n : Table = table_of (o.used + h.result.size) r.new.listed r.new.zone r.new.place in (
       omega arith,
       omega (arith, o.invariant.1, c.struct_known-1.given),
       all_more a.file.now a.m a.n a.z (heads_at o.kind o.first o.size) (table_of o.used o.listed o.zone o.place) n o.i o.o h.result.kind h.result.size (r.ensures.going t) o.invariant.2 c.loop-i-test.true (omega (arith, c.requires)) (head_in h.result) e refl refl
