@@ -18,13 +18,13 @@ returns-then-r c =
 pub push_to-pushed-requires : goal.push_to-pushed-requires
 push_to-pushed-requires c =
     let a = c.args in
-    let z = a.zone.now in record { j_in_bounds = omega (arith, c.place_of-j.ensures, ends_goal (on_vertices a.robots.now) (on_vertices a.goals.now) z c.lowest-r.result.0 c.lowest-r.ensures c.if-r.false c.requires.listed.1); listed = c.requires.listed.0; zone_in_bounds = ends_stands (on_vertices a.robots.now) (on_vertices a.goals.now) z c.lowest-r.result.0 c.lowest-r.ensures c.if-r.false }
+    let z = a.zone.now in record { j_in_bounds = omega (arith, c.place_of-j.ensures, ends_goal (on_vertices a.robots.now) (on_vertices a.goals.now) z c.lowest-r.result.0 c.lowest-r.ensures c.if-r.false c.requires.zone_value); listed = c.requires.listed; zone_in_bounds = ends_stands (on_vertices a.robots.now) (on_vertices a.goals.now) z c.lowest-r.result.0 c.lowest-r.ensures c.if-r.false }
 
 pub open_at-requires : goal.open_at-requires
 open_at-requires c =
     let a = c.args in
     let z = a.zone.now in (
-      omega (arith, c.place_of-j.ensures, ends_goal (on_vertices a.robots.now) (on_vertices a.goals.now) z c.lowest-r.result.0 c.lowest-r.ensures c.if-r.false c.requires.listed.1),
+      omega (arith, c.place_of-j.ensures, ends_goal (on_vertices a.robots.now) (on_vertices a.goals.now) z c.lowest-r.result.0 c.lowest-r.ensures c.if-r.false c.requires.zone_value),
       search rules,
     )
 
@@ -37,14 +37,14 @@ pub slice_bounds-end-end : goal.slice_bounds-end-end
 slice_bounds-end-end c =
     let a = c.args in
     let z = a.zone.now in
-    let h : c.place_of-j.result < length z = omega (arith, c.place_of-j.ensures, ends_goal (on_vertices a.robots.now) (on_vertices a.goals.now) z c.lowest-r.result.0 c.lowest-r.ensures c.if-r.false c.requires.listed.1) in
+    let h : c.place_of-j.result < length z = omega (arith, c.place_of-j.ensures, ends_goal (on_vertices a.robots.now) (on_vertices a.goals.now) z c.lowest-r.result.0 c.lowest-r.ensures c.if-r.false c.requires.zone_value) in
     opened_count z _ c.place_of-j.result h c.open_at.ensures
 
 pub end-requires : goal.end-requires
 end-requires c =
     let a = c.args in
     let z = a.zone.now in
-    let h : c.place_of-j.result < length z = omega (arith, c.place_of-j.ensures, ends_goal (on_vertices a.robots.now) (on_vertices a.goals.now) z c.lowest-r.result.0 c.lowest-r.ensures c.if-r.false c.requires.listed.1) in
+    let h : c.place_of-j.result < length z = omega (arith, c.place_of-j.ensures, ends_goal (on_vertices a.robots.now) (on_vertices a.goals.now) z c.lowest-r.result.0 c.lowest-r.ensures c.if-r.false c.requires.zone_value) in
     omega (arith, opened_count z _ c.place_of-j.result h c.open_at.ensures, c.requires.zone_len_bound)
 
 pub returns : goal.returns
@@ -53,8 +53,8 @@ returns c =
     let z = a.zone.now in
     let s = on_vertices a.robots.now in
     let r = c.lowest-r.result.0 in
-    let h : c.place_of-j.result < length z = omega (arith, c.place_of-j.ensures, ends_goal s (on_vertices a.goals.now) z r c.lowest-r.ensures c.if-r.false c.requires.listed.1) in
+    let h : c.place_of-j.result < length z = omega (arith, c.place_of-j.ensures, ends_goal s (on_vertices a.goals.now) z r c.lowest-r.ensures c.if-r.false c.requires.zone_value) in
     c.end.ensures
-    ∙ end_both (world_in a.robots.now a.vertices.now a.count a.out.now) _ (on_vertices a.goals.now) z _ r c.place_of-j.result c.requires.listed.0
+    ∙ end_both (world_in a.robots.now a.vertices.now a.count a.out.now) _ (on_vertices a.goals.now) z _ r c.place_of-j.result c.requires.listed
     (sym c.lowest-r.ensures ∙ cell_of_lem c.if-r.false) h c.place_of-j.ensures (ends_stands s (on_vertices a.goals.now) z r c.lowest-r.ensures c.if-r.false)
     c.open_at.ensures c.push_to-pushed.ensures

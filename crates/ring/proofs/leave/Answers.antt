@@ -13,7 +13,7 @@ pub push_to-requires : goal.push_to-requires
 push_to-requires c =
     let a = c.args in
     let s = on_vertices a.robots.now in
-    record { j_in_bounds = search rules; listed = c.requires.listed.0; zone_in_bounds = omega (arith, leave_inside (arrangement_of s a.zone.now) a.r.0 a.j c.requires.listed.1, arrangement_length s a.zone.now) }
+    record { j_in_bounds = search rules; listed = c.requires.listed; zone_in_bounds = omega (arith, leave_inside (arrangement_of s a.zone.now) a.r.0 a.j c.requires.j_value, arrangement_length s a.zone.now) }
 
 pub returns : goal.returns
 returns c =

@@ -4,8 +4,9 @@ use Prim.Native.Nat.{ℕ, ◌-◌, ◌≤◌, ◌<◌}
 use mathlib.Core.Path.{sym}
 use lib.ListN.{length, get_or}
 use Rattle.clique.specs.Entering.{numbered_more, numbered_all, never}
-use mathlib.Core.Logic.{◌≢◌, ⊎_elim}
+use mathlib.Core.Logic.{◌≢◌}
 use Rattle.clique.proofs.entering.names_robots.Goals as goal
+use Rattle.clique.proofs.entering.names_robots.Goals.{then-list-k+else-k-j, else-list-k}
 
 pub loop-k-init : goal.loop-k-init
 loop-k-init c = (search rules, λ i l. absurd (omega arith))
@@ -17,7 +18,7 @@ pub loop-k-preserved : goal.loop-k-preserved
 loop-k-preserved c = let o = c.loop-k in (
   search rules,
   numbered_more c.args.list.now c.args.j o.k o.invariant.1
-      (λ n e. ⊎_elim (λ w. n w.1.left) (λ w. w.left e) c.if-list-k.branch),
+      (λ n e. elim c.if-list-k.branch [ then-list-k+else-k-j w ↦ n w.if-k-j.false | else-list-k w ↦ w.if-list-k.false e ]),
 )
 
 pub returns : goal.returns

@@ -22,13 +22,13 @@ use Rattle.judge.proofs.plan.judge_in.Goals as goal
 pub fill_lists-requires : goal.fill_lists-requires
 fill_lists-requires c =
     let a = c.args in
-    let b = c.requires.cells_len.1 in
-    (λ z h. has_zone b.map a.n a.k a.kind.now a.first.now a.size.now a.listed.now a.zone.now a.place.now a.rows.now b.given z (rw b.count h), c.requires.cells_len.0.0, c.requires.cells_len.0.1, c.requires.cells_len.0.2)
+    let b = c.requires.placement in
+    (λ z h. has_zone b.map a.n a.k a.kind.now a.first.now a.size.now a.listed.now a.zone.now a.place.now a.rows.now b.given z (rw b.count h), c.requires.cells_len.0, c.requires.cells_len.1, c.requires.cells_len.2)
 
 pub walk-w-requires : goal.walk-w-requires
 walk-w-requires c =
     let a = c.args in
-    let b = c.requires.cells_len.1 in
+    let b = c.requires.placement in
     let long : length a.starts ≡ 64 = good_length (e_int w8) 64 a.starts _ c.well_formed.1.1.1.1.1.1.1.1.1.1.1.0 in
     let l : a.k ≤ length a.starts = omega (arith, b.given.few) in
     let s = state_of c.standing-s.result in
@@ -44,7 +44,7 @@ returns-in_default c =
     let s = state_of c.standing-s.result in
     let hc = start_consistent m d.accepted pl pd a.k a.starts s l es c.standing-s.ensures in
     let held = c.fill_lists.ensures.2 m a.n a.k a.kind.now a.zone.now a.place.now a.rows.now d e hc in
-    judged_refused m pl a.file.now a.len c.requires.len_in_bounds.0 a.k c.payload_word-count.result a.starts s c.requires.len_in_bounds.1 c.payload_word-count.ensures.0 l es c.standing-s.ensures a.first.now _ _ c.walk-w.result.fault c.walk-w.result.next (λ z. other_fault _ c.in_default.keys2 (ap (tag_of the_type) z)) (c.walk-w.ensures.2 m d s hc held)
+    judged_refused m pl a.file.now a.len c.requires.len_in_bounds.0 a.k c.payload_word-count.result a.starts s c.requires.len_in_bounds.1 c.payload_word-count.ensures.0 l es c.standing-s.ensures a.first.now _ _ c.walk-w.result.fault c.walk-w.result.next c.in_default.not-None (c.walk-w.ensures.2 m d s hc held)
 
 pub returns-then-next-len : goal.returns-then-next-len
 returns-then-next-len c =
@@ -55,13 +55,13 @@ returns-then-next-len c =
     let s = state_of c.standing-s.result in
     let hc = start_consistent m d.accepted pl pd a.k a.starts s l es c.standing-s.ensures in
     let held = c.fill_lists.ensures.2 m a.n a.k a.kind.now a.zone.now a.place.now a.rows.now d e hc in
-    let x : JudgedWalk m a.k (take a.len (payload a.file.now)) c.payload_word-count.result s plan.None c.walk-w.result.next a.first.now _ _ = rw c.enum_told-1.given.1 at (c.walk-w.ensures.2 m d s hc held) in
+    let x : JudgedWalk m a.k (take a.len (payload a.file.now)) c.payload_word-count.result s plan.None c.walk-w.result.next a.first.now _ _ = rw c.in-None.is at (c.walk-w.ensures.2 m d s hc held) in
     judged_surplus m pl a.file.now a.len c.requires.len_in_bounds.0 a.k c.payload_word-count.result a.starts s c.requires.len_in_bounds.1 c.payload_word-count.ensures.0 l es c.standing-s.ensures a.first.now _ _ c.walk-w.result.next x c.if-next-len.true
 
 pub off_zone-z-requires : goal.off_zone-z-requires
 off_zone-z-requires c =
     let a = c.args in
-    let b = c.requires.cells_len.1 in
+    let b = c.requires.placement in
     let long : length a.starts ≡ 64 = good_length (e_int w8) 64 a.starts _ c.well_formed.1.1.1.1.1.1.1.1.1.1.1.0 in
     let l : a.k ≤ length a.starts = omega (arith, b.given.few) in
     let s = state_of c.standing-s.result in
@@ -81,7 +81,7 @@ returns-then-z-zones c =
     let s = state_of c.standing-s.result in
     let hc = start_consistent m d.accepted pl pd a.k a.starts s l es c.standing-s.ensures in
     let held = c.fill_lists.ensures.2 m a.n a.k a.kind.now a.zone.now a.place.now a.rows.now d e hc in
-    let x : JudgedWalk m a.k (take a.len (payload a.file.now)) c.payload_word-count.result s plan.None c.walk-w.result.next a.first.now _ _ = rw c.enum_told-1.given.1 at (c.walk-w.ensures.2 m d s hc held) in
+    let x : JudgedWalk m a.k (take a.len (payload a.file.now)) c.payload_word-count.result s plan.None c.walk-w.result.next a.first.now _ _ = rw c.in-None.is at (c.walk-w.ensures.2 m d s hc held) in
     judged_goals m pl a.file.now a.len c.requires.len_in_bounds.0 a.k c.payload_word-count.result a.starts s c.requires.len_in_bounds.1 c.payload_word-count.ensures.0 l es c.standing-s.ensures a.first.now _ _ c.walk-w.result.next x (state_of c.standing-g.result) (c.standing-g.ensures ∙ ap meaning.standing (sym eg)) c.if-next-len.false (plan.Goal c.off_zone-z.result)
     (sym (off_some c.off_zone-z.result a.zones c.if-z-zones.true) ∙ c.off_zone-z.ensures m a.n a.k a.zone.now a.place.now a.rows.now d e x.state x.consistent x.held)
 
@@ -94,6 +94,6 @@ returns c =
     let s = state_of c.standing-s.result in
     let hc = start_consistent m d.accepted pl pd a.k a.starts s l es c.standing-s.ensures in
     let held = c.fill_lists.ensures.2 m a.n a.k a.kind.now a.zone.now a.place.now a.rows.now d e hc in
-    let x : JudgedWalk m a.k (take a.len (payload a.file.now)) c.payload_word-count.result s plan.None c.walk-w.result.next a.first.now _ _ = rw c.enum_told-1.given.1 at (c.walk-w.ensures.2 m d s hc held) in
+    let x : JudgedWalk m a.k (take a.len (payload a.file.now)) c.payload_word-count.result s plan.None c.walk-w.result.next a.first.now _ _ = rw c.in-None.is at (c.walk-w.ensures.2 m d s hc held) in
     judged_goals m pl a.file.now a.len c.requires.len_in_bounds.0 a.k c.payload_word-count.result a.starts s c.requires.len_in_bounds.1 c.payload_word-count.ensures.0 l es c.standing-s.ensures a.first.now _ _ c.walk-w.result.next x (state_of c.standing-g.result) (c.standing-g.ensures ∙ ap meaning.standing (sym eg)) c.if-next-len.false plan.None
     (sym (off_none c.off_zone-z.result a.zones c.if-z-zones.false) ∙ c.off_zone-z.ensures m a.n a.k a.zone.now a.place.now a.rows.now d e x.state x.consistent x.held)

@@ -35,7 +35,7 @@ overflow_add-next c =
     let q = c.requires.ready in
     let l = c.loop-i in
     let j = l.invariant.3 q.map q.given q.state q.consistent q.held in
-    let y = marching_room a.file.now l.o _ a.kind.now a.first.now a.size.now a.listed.now a.zone.now a.place.now l.counts l.cells (judging_step q.map a.n a.k a.kind.now a.first.now a.size.now a.listed.now a.zone.now a.place.now a.rows.now q.given a.file.now a.len c.requires.len_in_bounds.0 a.count q.state l.i l.o l.counts l.cells l.invariant.1 l.invariant.2 j c.test_step-x.result.test (c.test_step-x.ensures.tests q.map q.given j.world.state j.walking.consistent j.held l.i) _ c.t-1.given.1) in
+    let y = marching_room a.file.now l.o _ a.kind.now a.first.now a.size.now a.listed.now a.zone.now a.place.now l.counts l.cells (judging_step q.map a.n a.k a.kind.now a.first.now a.size.now a.listed.now a.zone.now a.place.now a.rows.now q.given a.file.now a.len c.requires.len_in_bounds.0 a.count q.state l.i l.o l.counts l.cells l.invariant.1 l.invariant.2 j c.test_step-x.result.test (c.test_step-x.ensures.tests q.map q.given j.world.state j.walking.consistent j.held l.i) _ c.in-Passed.is) in
     let z = c.well_formed.0.0 in
     let w = c.requires.len_in_bounds.0 in
     search rules
@@ -46,7 +46,7 @@ overflow_add-next-in-Passed c =
     let q = c.requires.ready in
     let l = c.loop-i in
     let j = l.invariant.3 q.map q.given q.state q.consistent q.held in
-    let y = marching_room a.file.now l.o _ a.kind.now a.first.now a.size.now a.listed.now a.zone.now a.place.now l.counts l.cells (judging_step q.map a.n a.k a.kind.now a.first.now a.size.now a.listed.now a.zone.now a.place.now a.rows.now q.given a.file.now a.len c.requires.len_in_bounds.0 a.count q.state l.i l.o l.counts l.cells l.invariant.1 l.invariant.2 j c.test_step-x.result.test (c.test_step-x.ensures.tests q.map q.given j.world.state j.walking.consistent j.held l.i) _ c.t-1.given.1) in
+    let y = marching_room a.file.now l.o _ a.kind.now a.first.now a.size.now a.listed.now a.zone.now a.place.now l.counts l.cells (judging_step q.map a.n a.k a.kind.now a.first.now a.size.now a.listed.now a.zone.now a.place.now a.rows.now q.given a.file.now a.len c.requires.len_in_bounds.0 a.count q.state l.i l.o l.counts l.cells l.invariant.1 l.invariant.2 j c.test_step-x.result.test (c.test_step-x.ensures.tests q.map q.given j.world.state j.walking.consistent j.held l.i) _ c.in-Passed.is) in
     let z = c.well_formed.0.0 in
     let w = c.requires.len_in_bounds.0 in
     search rules
@@ -57,7 +57,7 @@ make_step-requires c =
     let q = c.requires.ready in
     let l = c.loop-i in
     let j = l.invariant.3 q.map q.given q.state q.consistent q.held in
-    record { marching = judging_step q.map a.n a.k a.kind.now a.first.now a.size.now a.listed.now a.zone.now a.place.now a.rows.now q.given a.file.now a.len c.requires.len_in_bounds.0 a.count q.state l.i l.o l.counts l.cells l.invariant.1 l.invariant.2 j c.test_step-x.result.test (c.test_step-x.ensures.tests q.map q.given j.world.state j.walking.consistent j.held l.i) _ c.t-1.given.1; chosen = c.test_step-x.ensures.chosen _ c.t-1.given.1 }
+    record { marching = judging_step q.map a.n a.k a.kind.now a.first.now a.size.now a.listed.now a.zone.now a.place.now a.rows.now q.given a.file.now a.len c.requires.len_in_bounds.0 a.count q.state l.i l.o l.counts l.cells l.invariant.1 l.invariant.2 j c.test_step-x.result.test (c.test_step-x.ensures.tests q.map q.given j.world.state j.walking.consistent j.held l.i) _ c.in-Passed.is; chosen = c.test_step-x.ensures.chosen _ c.in-Passed.is }
 
 pub overflow_add-i : goal.overflow_add-i
 overflow_add-i c =
@@ -71,15 +71,15 @@ loop-i-preserved c =
     let q = c.requires.ready in
     let l = c.loop-i in
     let j₀ = l.invariant.3 q.map q.given q.state q.consistent q.held in
-    let y = c.make_step.ensures (judging_step q.map a.n a.k a.kind.now a.first.now a.size.now a.listed.now a.zone.now a.place.now a.rows.now q.given a.file.now a.len c.requires.len_in_bounds.0 a.count q.state l.i l.o l.counts l.cells l.invariant.1 l.invariant.2 j₀ c.test_step-x.result.test (c.test_step-x.ensures.tests q.map q.given j₀.world.state j₀.walking.consistent j₀.held l.i) _ c.t-1.given.1) in (
+    let y = c.make_step.ensures (judging_step q.map a.n a.k a.kind.now a.first.now a.size.now a.listed.now a.zone.now a.place.now a.rows.now q.given a.file.now a.len c.requires.len_in_bounds.0 a.count q.state l.i l.o l.counts l.cells l.invariant.1 l.invariant.2 j₀ c.test_step-x.result.test (c.test_step-x.ensures.tests q.map q.given j₀.world.state j₀.walking.consistent j₀.held l.i) _ c.in-Passed.is) in (
       search rules,
       y.room,
       y.many,
       λ m d s hc x.
           let j = l.invariant.3 m d s hc x in
           let t = c.test_step-x.ensures.tests m d j.world.state j.walking.consistent j.held l.i in
-          judging_next m a.n a.k a.kind.now a.first.now a.size.now a.listed.now a.zone.now a.place.now a.rows.now d a.file.now a.len c.requires.len_in_bounds.0 a.count s l.i l.o l.counts l.cells l.invariant.1 l.invariant.2 j c.test_step-x.result.test t _ c.t-1.given.1 c.loop-i-test.true _ _
-          (c.make_step.ensures (judging_step m a.n a.k a.kind.now a.first.now a.size.now a.listed.now a.zone.now a.place.now a.rows.now d a.file.now a.len c.requires.len_in_bounds.0 a.count s l.i l.o l.counts l.cells l.invariant.1 l.invariant.2 j c.test_step-x.result.test t _ c.t-1.given.1)),
+          judging_next m a.n a.k a.kind.now a.first.now a.size.now a.listed.now a.zone.now a.place.now a.rows.now d a.file.now a.len c.requires.len_in_bounds.0 a.count s l.i l.o l.counts l.cells l.invariant.1 l.invariant.2 j c.test_step-x.result.test t _ c.in-Passed.is c.loop-i-test.true _ _
+          (c.make_step.ensures (judging_step m a.n a.k a.kind.now a.first.now a.size.now a.listed.now a.zone.now a.place.now a.rows.now d a.file.now a.len c.requires.len_in_bounds.0 a.count s l.i l.o l.counts l.cells l.invariant.1 l.invariant.2 j c.test_step-x.result.test t _ c.in-Passed.is)),
     )
 
 pub returns-in_default : goal.returns-in_default
@@ -91,7 +91,7 @@ returns-in_default c =
       λ m d s hc x.
           let j = l.invariant.3 m d s hc x in
           let r : refusal_of l.i c.test_step-x.result.test ≡ c.refusal_of.result = sym c.refusal_of.ensures in
-          rw (← r) (judging_stop m a.n a.k a.kind.now a.first.now a.size.now a.listed.now a.zone.now a.place.now a.rows.now d a.file.now a.len c.requires.len_in_bounds.0 a.count s l.i l.o l.counts l.cells l.invariant.1 l.invariant.2 j c.test_step-x.result.test (c.test_step-x.ensures.tests m d j.world.state j.walking.consistent j.held l.i) (λ e z. other_tag _ c.in_default.keys2 (ap (tag_of the_type) z)) c.loop-i-test.true),
+          rw (← r) (judging_stop m a.n a.k a.kind.now a.first.now a.size.now a.listed.now a.zone.now a.place.now a.rows.now d a.file.now a.len c.requires.len_in_bounds.0 a.count s l.i l.o l.counts l.cells l.invariant.1 l.invariant.2 j c.test_step-x.result.test (c.test_step-x.ensures.tests m d j.world.state j.walking.consistent j.held l.i) c.in_default.not-Passed c.loop-i-test.true),
     )
 
 pub returns : goal.returns
