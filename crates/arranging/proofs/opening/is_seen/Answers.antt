@@ -1,0 +1,12 @@
+use Rattle.std.proofs.Common.{sym}
+use Rattle.theory.specs.Basics.Tests.{of_true}
+use Rattle.arranging.proofs.opening.is_seen.Goals as goal
+
+pub is_open-requires : goal.is_open-requires
+is_open-requires c = tt
+
+pub returns-then-is_open : goal.returns-then-is_open
+returns-then-is_open c = λ e. absurd (of_true (sym e))
+
+pub returns : goal.returns
+returns c = λ e. (e, c.is_open.ensures.1 c.if-is_open.false)

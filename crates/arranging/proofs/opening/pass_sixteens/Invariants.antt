@@ -1,0 +1,10 @@
+use Rattle.std.proofs.Common.{◌≡◌, ◌+◌, ◌-◌, ◌≤◌, drop, refl, ◌∙◌, arith, rules}
+use Rattle.spec.specs.Clique.{open_target}
+use Rattle.arranging.specs.Toward.{open_sixteen, part_length}
+use Rattle.arranging.proofs.opening.pass_sixteens.Given as goal
+
+abbrev pub invariant-loop-i : goal.invariant-loop-i
+invariant-loop-i l = (l.i ≤ l.n) × (l.i + open_target (drop l.i l.cells) (drop l.i l.goal) ≡ l.from + open_target (drop l.from l.cells) (drop l.from l.goal))
+
+abbrev pub decreases-loop-i : goal.decreases-loop-i
+decreases-loop-i l = l.n - l.i

@@ -1,0 +1,25 @@
+use Rattle.walking.specs.Given.{part}
+use Rattle.walking.specs.Kinds.{end_moves}
+use Rattle.spec.specs.State.{across}
+use Rattle.motion.specs.World.{world_in, made_all}
+use Rattle.spec.specs.State.{arrangement_of}
+use Rattle.motion.specs.Tables.{tabled, on_vertices}
+use lib.ListN.{get_or}
+use Prim.Native.Nat.{ℕ, ◌-◌}
+use mathlib.Core.List.{List}
+use mathlib.Core.Path.{ap, ◌∙◌}
+use borrow.Author.Rules.{rules}
+use Rattle.bringing.proofs.ending.end_zone.Goals as goal
+
+pub bring_to_goals-requires : goal.bring_to_goals-requires
+unfolding arrangement_of
+bring_to_goals-requires c =
+    let s = c in
+    let a = s.args in
+    record { zone_len_bound = rw (part (get_or a.first.now a.z 0) (get_or a.size.now a.z 0) a.listed.now) s.requires.0.long; listed = rw (part (get_or a.first.now a.z 0) (get_or a.size.now a.z 0) a.listed.now, s.requires.1.1.0) s.requires.0.once; zone_value = rw (part (get_or a.first.now a.z 0) (get_or a.size.now a.z 0) a.listed.now) s.requires.1.0; proper = rw (part (get_or a.first.now a.z 0) (get_or a.size.now a.z 0) a.listed.now) s.requires.1.1.1 }
+
+pub returns : goal.returns
+unfolding arrangement_of
+returns c =
+    let a = c.args in
+    c.bring_to_goals.ensures ∙ ap (λ (vs : List ℕ). made_all (world_in a.robots.now a.vertices.now a.count a.out.now) (across vs (end_moves (get_or a.kind.now a.z 0) (arrangement_of (tabled a.robots.now a.vertices.now) vs) (arrangement_of (on_vertices a.goals.now) vs)))) (part (get_or a.first.now a.z 0) (get_or a.size.now a.z 0) a.listed.now)

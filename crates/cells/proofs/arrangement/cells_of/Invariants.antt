@@ -1,0 +1,19 @@
+use borrow.Author.Rules.{rules}
+use mathlib.Core.Path.{◌≡◌, refl, ap, sym, ◌∙◌}
+use native.Mathlib.Omega.{arith}
+use Prim.Native.Nat.{ℕ, ◌+◌, ◌-◌, ◌≤◌}
+use mathlib.Core.List.{List, ◌∷◌, ◌++◌}
+use lib.ListN.{length, take, drop, length-set}
+use Rattle.spec.specs.State.{arrangement_of}
+use Rattle.motion.specs.Tables.{on_vertices}
+use Rattle.motion.specs.Across.{arrangement_length, arrangement_next}
+use Rattle.cells.specs.Cells.{overlaid, overlaid_step, overlaid_end}
+use Rattle.cells.proofs.arrangement.cells_of.Given as goal
+
+abbrev pub invariant-loop-k : goal.invariant-loop-k
+invariant-loop-k l =
+    (l.k ≤ l.n) × (length l.cells ≡ length l.initial.cells)
+    × (take l.k l.cells ++ overlaid (drop l.k (arrangement_of (on_vertices l.robots) l.zone)) (drop l.k l.cells) ≡ overlaid (arrangement_of (on_vertices l.robots) l.zone) l.initial.cells)
+
+abbrev pub decreases-loop-k : goal.decreases-loop-k
+decreases-loop-k l = l.n - l.k

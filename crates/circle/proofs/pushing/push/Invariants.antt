@@ -1,0 +1,33 @@
+use borrow.Author.Rules.{rules}
+use native.Mathlib.Omega.{arith}
+use Prim.Native.Nat.{ℕ, ◌+◌, ◌-◌, ◌≤◌, ◌<◌}
+use mathlib.Core.Path.{◌≡◌, refl, ap, sym, ◌∙◌}
+use mathlib.Core.Logic.{⊎_elim}
+use mathlib.Core.Bool.{false}
+use lib.ListN.{length, get_or}
+use Rattle.spec.specs.Arrangement.{mv}
+use Rattle.spec.specs.Ring.{wrap}
+use Rattle.spec.specs.State.{robot_on, across, across_move}
+use Rattle.motion.specs.Tables.{on_vertices}
+use Rattle.motion.specs.World.{world_in, made, made_all, made_none}
+use Rattle.motion.specs.Across.{across_nil, across_move_lem}
+use Rattle.circle.specs.Places.{previous_place, next_place, beside_back, wrap_in, wrap_under, wrap_next, wrap_previous}
+use Rattle.circle.specs.Runs.{run_at, run_from, run_on, run_stops, run_round, run_robot}
+use Rattle.circle.specs.Pushes.{push_from, push_none, push_all, push_step, Unmoved, unmoved_all, unmoved_behind}
+use Rattle.circle.proofs.pushing.push.Given as goal
+
+abbrev pub invariant-loop-k : goal.invariant-loop-k
+invariant-loop-k l = (l.m ≡ length l.zone) × (l.k ≤ length l.zone) × (l.at ≡ wrap (length l.zone) (l.p + l.k)) × (l.k + run_from (on_vertices l.robots) l.zone l.p l.k ≡ length (run_at (on_vertices l.robots) l.zone l.p))
+
+abbrev pub decreases-loop-k : goal.decreases-loop-k
+decreases-loop-k l = length l.zone - l.k
+
+abbrev pub invariant-loop-k-2 : goal.invariant-loop-k-2
+invariant-loop-k-2 l =
+    (length l.robots ≡ length l.initial.robots) × (length l.vertices ≡ length l.initial.vertices) × (length l.out ≡ length l.initial.out) × (l.m ≡ length l.zone) × (l.k ≤ length l.zone)
+    × (l.k ≤ length (run_at (on_vertices l.initial.robots) l.zone l.p)) × (l.to ≡ wrap (length l.zone) (l.p + l.k))
+    × (world_in l.robots l.vertices l.count l.out ≡ made_all (world_in l.initial.robots l.initial.vertices l.count-2 l.initial.out) (across l.zone (push_from (on_vertices l.initial.robots) l.zone l.p l.k)))
+    × Unmoved (on_vertices l.initial.robots) (on_vertices l.robots) l.zone l.p l.k
+
+abbrev pub decreases-loop-k-2 : goal.decreases-loop-k-2
+decreases-loop-k-2 l = l.k

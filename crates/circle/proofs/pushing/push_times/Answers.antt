@@ -1,0 +1,39 @@
+use borrow.Author.Rules.{rules}
+use native.Mathlib.Omega.{arith}
+use Prim.Native.Nat.{◌≤◌, ◌<◌}
+use mathlib.Core.Path.{◌≡◌, refl, ◌∙◌}
+use lib.ListN.{length}
+use Rattle.spec.specs.Ring.{pushes}
+use Rattle.spec.specs.State.{arrangement_of, across}
+use Rattle.motion.specs.Tables.{on_vertices}
+use Rattle.motion.specs.World.{world_in, made_all}
+use Rattle.motion.specs.Coupling.{Listed}
+use Rattle.circle.specs.Places.{next_under}
+use Rattle.circle.specs.Pushes.{pushes_step, pushes_done}
+use Rattle.circle.proofs.pushing.push_times.Goals as goal
+
+pub loop-left-init : goal.loop-left-init
+loop-left-init c = (refl, refl, refl, search rules, refl)
+
+pub push-count-requires : goal.push-count-requires
+push-count-requires c = record { p_in_bounds = c.loop-left.invariant.3; listed = rw c.loop-left.invariant.0 c.requires.listed }
+
+pub loop-left-preserved : goal.loop-left-preserved
+loop-left-preserved c =
+    let a = c.args in
+    let o = c.loop-left in
+    let z = a.zone.now in
+    let M : Listed (length o.robots) z = rw o.invariant.0 c.requires.listed in
+    let h : o.at < length z = o.invariant.3 in (
+      search rules,
+      search rules,
+      search rules,
+      omega (arith, next_under (length z) o.at h, c.next-at.ensures),
+      pushes_step (world_in o.robots o.vertices o.count o.out) _ z o.at c.next-at.result o.left M h c.loop-left-test.true c.next-at.ensures c.push-count.ensures ∙ o.invariant.4,
+    )
+
+pub returns : goal.returns
+returns c =
+    let a = c.args in
+    let o = c.loop-left in
+    pushes_done (world_in o.robots o.vertices o.count o.out) a.zone.now _ o.at o.left (omega arith) ∙ o.invariant.4

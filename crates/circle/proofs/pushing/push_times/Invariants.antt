@@ -1,0 +1,21 @@
+use borrow.Author.Rules.{rules}
+use native.Mathlib.Omega.{arith}
+use Prim.Native.Nat.{◌≤◌, ◌<◌}
+use mathlib.Core.Path.{◌≡◌, refl, ◌∙◌}
+use lib.ListN.{length}
+use Rattle.spec.specs.Ring.{pushes}
+use Rattle.spec.specs.State.{arrangement_of, across}
+use Rattle.motion.specs.Tables.{on_vertices}
+use Rattle.motion.specs.World.{world_in, made_all}
+use Rattle.motion.specs.Coupling.{Listed}
+use Rattle.circle.specs.Places.{next_under}
+use Rattle.circle.specs.Pushes.{pushes_step, pushes_done}
+use Rattle.circle.proofs.pushing.push_times.Given as goal
+
+abbrev pub invariant-loop-left : goal.invariant-loop-left
+invariant-loop-left l =
+    (length l.robots ≡ length l.initial.robots) × (length l.vertices ≡ length l.initial.vertices) × (length l.out ≡ length l.initial.out) × (l.at < length l.zone)
+    × (made_all (world_in l.robots l.vertices l.count l.out) (across l.zone (pushes l.left (arrangement_of (on_vertices l.robots) l.zone) l.at)) ≡ made_all (world_in l.initial.robots l.initial.vertices l.count-2 l.initial.out) (across l.zone (pushes l.n (arrangement_of (on_vertices l.initial.robots) l.zone) l.p)))
+
+abbrev pub decreases-loop-left : goal.decreases-loop-left
+decreases-loop-left l = l.left

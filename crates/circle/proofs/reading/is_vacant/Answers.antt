@@ -1,0 +1,30 @@
+use borrow.Author.Rules.{rules}
+use native.Mathlib.Omega.{arith}
+use Prim.Native.Nat.{◌+◌, ◌-◌, ◌≤◌, ◌<◌, suc}
+use mathlib.Core.Path.{◌≡◌, refl, sym, ◌∙◌}
+use lib.ListN.{length, drop}
+use Rattle.spec.specs.State.{arrangement_of}
+use Rattle.motion.specs.Tables.{on_vertices}
+use Rattle.circle.specs.Reading.{vacant, vacant_stops, vacant_on, vacant_over}
+use Rattle.circle.proofs.reading.is_vacant.Goals as goal
+
+pub loop-i-init : goal.loop-i-init
+loop-i-init c = (search rules, refl)
+
+pub returns-then-x : goal.returns-then-x
+returns-then-x c =
+    let a = c.args in
+    let o = c.loop-i in
+    vacant_stops (on_vertices a.robots.now) a.zone.now o.i c.robot_at-x.result.0 (search rules) c.robot_at-x.ensures c.if-x.true ∙ o.invariant.1
+
+pub loop-i-preserved : goal.loop-i-preserved
+loop-i-preserved c =
+    let a = c.args in
+    let o = c.loop-i in
+    (search rules, vacant_on (on_vertices a.robots.now) a.zone.now o.i c.robot_at-x.result.0 (search rules) c.robot_at-x.ensures c.if-x.false ∙ o.invariant.1)
+
+pub returns : goal.returns
+returns c =
+    let a = c.args in
+    let o = c.loop-i in
+    vacant_over (on_vertices a.robots.now) a.zone.now o.i (search rules) ∙ o.invariant.1

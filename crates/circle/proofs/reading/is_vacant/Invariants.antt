@@ -1,0 +1,15 @@
+use borrow.Author.Rules.{rules}
+use native.Mathlib.Omega.{arith}
+use Prim.Native.Nat.{◌+◌, ◌-◌, ◌≤◌, ◌<◌, suc}
+use mathlib.Core.Path.{◌≡◌, refl, sym, ◌∙◌}
+use lib.ListN.{length, drop}
+use Rattle.spec.specs.State.{arrangement_of}
+use Rattle.motion.specs.Tables.{on_vertices}
+use Rattle.circle.specs.Reading.{vacant, vacant_stops, vacant_on, vacant_over}
+use Rattle.circle.proofs.reading.is_vacant.Given as goal
+
+abbrev pub invariant-loop-i : goal.invariant-loop-i
+invariant-loop-i l = (l.i ≤ length l.zone) × (vacant (drop l.i (arrangement_of (on_vertices l.robots) l.zone)) ≡ vacant (arrangement_of (on_vertices l.robots) l.zone))
+
+abbrev pub decreases-loop-i : goal.decreases-loop-i
+decreases-loop-i l = length l.zone - l.i

@@ -1,0 +1,9 @@
+use borrow.Author.Rules.{rules}
+use Rattle.clique.specs.Entering.{named_is, named_past}
+use Rattle.clique.proofs.entering.names_at.Goals as goal
+
+pub returns-then-j-list : goal.returns-then-j-list
+returns-then-j-list c = named_is c.args.list.now c.args.j c.args.r.0 c.if-j-list.true
+
+pub returns : goal.returns
+returns c = named_past c.args.list.now c.args.j c.args.r.0 c.if-j-list.false

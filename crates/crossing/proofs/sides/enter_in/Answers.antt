@@ -1,0 +1,28 @@
+use native.Mathlib.Nat.{le_refl}
+use Rattle.walking.specs.Kinds.{enter_moves}
+use Rattle.motion.specs.World.{world_in, made_all}
+use Rattle.spec.specs.State.{across}
+use Rattle.spec.specs.State.{arrangement_of}
+use Rattle.motion.specs.Tables.{tabled}
+use lib.ListN.{length}
+use Prim.Native.Nat.{ℕ, ◌+◌}
+use mathlib.Core.List.{List}
+use mathlib.Core.Path.{ap, ◌∙◌}
+use borrow.Author.Rules.{rules}
+use Rattle.crossing.proofs.sides.enter_in.Goals as goal
+
+pub enter-requires : goal.enter-requires
+unfolding arrangement_of
+enter-requires c =
+    let s = c in
+    let a = s.args in
+    let e = c.copy_list.ensures (a.from + length a.list.now) s.requires.0.3 (le_refl _) in
+    record { zone_len_bound = (s.requires.0.0, s.requires.0.1, search rules); listed = s.requires.1.0; numbered = rw e s.requires.1.1.0; proper = s.requires.1.1.1.0; list_len = search (rules, s.requires.1.1.1.1) }
+
+pub returns : goal.returns
+unfolding arrangement_of
+returns c =
+    let a = c.args in
+    let e = c.copy_list.ensures (a.from + length a.list.now) c.requires.zone_len_bound.3 (le_refl _) in
+    c.enter.ensures
+    ∙ ap (λ (l : List ℕ). made_all (world_in a.robots.now a.vertices.now a.count a.out.now) (across a.zone.now (enter_moves a.kind (arrangement_of (tabled a.robots.now a.vertices.now) a.zone.now) a.j a.behind l))) e

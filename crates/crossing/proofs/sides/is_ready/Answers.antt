@@ -1,0 +1,13 @@
+use mathlib.Core.Path.{sym, ◌∙◌}
+use lib.Dec.{eqb→eq}
+use Rattle.theory.specs.Basics.Tests.{of_true}
+use borrow.Author.Rules.{rules}
+use Rattle.crossing.proofs.sides.is_ready.Goals as goal
+
+pub returns-then-robot_in : goal.returns-then-robot_in
+returns-then-robot_in c =
+    λ q. absurd (of_true q)
+
+pub returns : goal.returns
+returns c =
+    λ q. (sym c.if-robot_in.false ∙ c.robot_in.ensures, sym c.behind_of-nearest.ensures ∙ eqb→eq _ _ (of_true q))

@@ -1,0 +1,36 @@
+use Rattle.crossing.specs.Sides.{left_ready}
+use Rattle.walking.specs.Given.{part, kind_at, vertices_at}
+use Rattle.walking.specs.Kinds.{leave_moves}
+use Rattle.motion.specs.World.{world_in, made_all}
+use Rattle.spec.specs.State.{arrangement_of, across}
+use Rattle.motion.specs.Tables.{tabled}
+use lib.ListN.{get_or}
+use Prim.Native.Nat.{ℕ}
+use mathlib.Core.List.{List}
+use mathlib.Core.Path.{sym, ap, ◌∙◌}
+use borrow.Author.Rules.{rules}
+use Rattle.crossing.proofs.sides.leave_at.Goals as goal
+
+pub returns-then-robot_in-r : goal.returns-then-robot_in-r
+unfolding arrangement_of
+returns-then-robot_in-r c =
+    let s = c in
+    let a = s.args in
+    left_ready (kind_at a.kind.now a.zone.now a.u) (tabled a.robots.now a.vertices.now) (vertices_at a.first.now a.size.now a.listed.now a.zone.now a.u) s.requires.1.1.1 (get_or a.place.now a.u 0) s.requires.0.inside a.r a.u (world_in a.robots.now a.vertices.now a.count a.out.now) s.requires.0.there s.requires.1.0 (sym c.if-robot_in-r.true ∙ c.robot_in.ensures)
+
+pub leave_in-requires : goal.leave_in-requires
+unfolding arrangement_of
+leave_in-requires c =
+    let s = c in
+    let a = s.args in
+    let z : ℕ = get_or a.zone.now a.u 0 in
+    let e = part (get_or a.first.now z 0) (get_or a.size.now z 0) a.listed.now in
+    record { zone_len_bound = (rw e s.requires.0.here.long, rw e s.requires.0.inside, rw e s.requires.0.there); listed = rw (e, s.requires.1.1.0) s.requires.0.here.once; j_value = rw e s.requires.1.0; proper = rw e s.requires.1.1.1 }
+
+pub returns : goal.returns
+unfolding arrangement_of
+returns c =
+    let a = c.args in
+    let z : ℕ = get_or a.zone.now a.u 0 in
+    c.leave_in.ensures
+    ∙ ap (λ (vs : List ℕ). made_all (world_in a.robots.now a.vertices.now a.count a.out.now) (across vs (leave_moves (kind_at a.kind.now a.zone.now a.u) (arrangement_of (tabled a.robots.now a.vertices.now) vs) a.r (get_or a.place.now a.u 0)))) (part (get_or a.first.now z 0) (get_or a.size.now z 0) a.listed.now)

@@ -1,0 +1,14 @@
+use borrow.Author.Rules.{rules}
+use native.Mathlib.Omega.{arith}
+use Prim.Native.Nat.{ℕ, ◌+◌, ◌-◌, ◌*◌, ◌<◌, ◌≤◌}
+use mathlib.Core.Path.{◌≡◌, refl, ap, ◌∙◌}
+use lib.ListN.{get_or, get_or-eq_default}
+use Rattle.wire.specs.Payload.{place_of}
+use Rattle.edging.specs.Edges.{GoingEdges, edges_start, edges_short, edges_half, edges_order, edges_over, edges_again, edges_good, edges_end, edges_refused}
+use Rattle.edging.proofs.edges.read_edges.Given as goal
+
+abbrev pub invariant-loop-k : goal.invariant-loop-k
+invariant-loop-k l = (l.k ≤ l.whole) × (l.at ≡ place_of (l.from + l.k * 2)) × GoingEdges l.file l.m l.n l.e l.from l.initial.rows l.rows l.k l.least
+
+abbrev pub decreases-loop-k : goal.decreases-loop-k
+decreases-loop-k l = l.whole - l.k

@@ -1,0 +1,23 @@
+use borrow.Author.Rules.{rules}
+use native.Mathlib.Omega.{arith}
+use Prim.Native.Nat.{ℕ, ◌+◌, ◌-◌, ◌≤◌}
+use mathlib.Core.Path.{◌≡◌, refl, ap, sym, ◌∙◌}
+use lib.ListN.{length, get_or}
+use mathlib.Core.List.{List}
+use Rattle.spec.specs.Arrangement.{Move}
+use Rattle.spec.specs.State.{across}
+use Rattle.spec.specs.Hall.{down, lowering}
+use Rattle.motion.specs.World.{world_in, made_all, made_none}
+use Rattle.motion.specs.Across.{across_nil, made_both}
+use Rattle.hall.specs.Trips.{trips_from, lowering_more, lowering_done}
+use Rattle.hall.proofs.trips.lower_all.Given as goal
+
+abbrev pub invariant-loop-i : goal.invariant-loop-i
+invariant-loop-i l =
+    (length l.out ≡ length l.initial.out) × (l.i ≤ l.n)
+    × (made_all (world_in l.robots l.vertices l.made l.out) (across l.zone (lowering (trips_from l.line l.places l.goals l.i l.n)))
+    ≡ made_all (world_in l.initial.robots l.initial.vertices l.initial.made l.initial.out) (across l.zone (lowering (trips_from l.line l.places l.goals 0 l.n))))
+    × (length l.robots ≡ length l.initial.robots) × (length l.vertices ≡ length l.initial.vertices)
+
+abbrev pub decreases-loop-i : goal.decreases-loop-i
+decreases-loop-i l = l.n - l.i

@@ -1,0 +1,20 @@
+use Rattle.motion.specs.Tables.{on_vertices}
+use borrow.Author.Rules.{rules}
+use mathlib.Core.List.{List}
+use mathlib.Core.Path.{◌≡◌, ap, ◌∙◌}
+use Prim.Native.Nat.{ℕ, ◌-◌, ◌≤◌, ◌<◌}
+use lib.ListN.{length, length-set}
+use Rattle.spec.specs.Layout.{Map}
+use Rattle.spec.specs.Terms.{zone_count}
+use Rattle.motion.specs.States.{state_of}
+use Rattle.walking.specs.Given.{Given}
+use Rattle.judge.specs.Filling.{filled_by, Filled, filled_none, filled_more, filled_all}
+use Rattle.judge.proofs.ending.fill_lists.Given as goal
+
+abbrev pub invariant-loop-z : goal.invariant-loop-z
+invariant-loop-z l =
+    (l.z ≤ l.zones) × (length l.cells ≡ length l.listed) × (length l.counts ≡ 64)
+    × ((m : Map) (n k : ℕ) (kind zone place : List ℕ) (rows : List (List ℕ)) → Given m n k kind l.first l.size l.listed zone place rows → zone_count m ≡ l.zones → Filled m l.first l.counts l.cells (on_vertices l.on) l.z)
+
+abbrev pub decreases-loop-z : goal.decreases-loop-z
+decreases-loop-z l = l.zones - l.z

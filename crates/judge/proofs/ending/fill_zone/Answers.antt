@@ -1,0 +1,53 @@
+use borrow.Author.Rules.{rules}
+use mathlib.Core.Path.{sym}
+use Prim.Native.Nat.{◌+◌, ◌-◌, ◌≤◌}
+use lib.ListN.{length, get_or, take, drop}
+use lib.Seq.{length-take-le}
+use Rattle.motion.specs.Tables.{on_vertices}
+use Rattle.walking.specs.Given.{part}
+use Rattle.judge.specs.Filling.{lined_small, lined_fits, filled_zone}
+use Rattle.judge.proofs.ending.fill_zone.Goals as goal
+
+pub line_up-n-requires : goal.line_up-n-requires
+line_up-n-requires c =
+    let a = c.args in
+    let x : length (take (get_or a.first.now a.z 0 + get_or a.size.now a.z 0 - get_or a.first.now a.z 0) (drop (get_or a.first.now a.z 0) a.listed.now)) ≤ 128 = rw (part (get_or a.first.now a.z 0) (get_or a.size.now a.z 0) a.listed.now) c.requires.0.long in
+    (x, search rules, search rules)
+
+pub slice_bounds-robots-end : goal.slice_bounds-robots-end
+slice_bounds-robots-end c =
+    let a = c.args in
+    let l = c.line_up-n in
+    let x : l.result ≤ 128 = lined_small a.first.now a.size.now a.listed.now a.z c.requires.0 (on_vertices a.on.now) l.result l.new.line l.new.places l.ensures in
+    search rules
+
+pub slice_bounds-store-end-2 : goal.slice_bounds-store-end-2
+slice_bounds-store-end-2 c =
+    let a = c.args in
+    let l = c.line_up-n in
+    let x : l.result ≤ 128 = lined_small a.first.now a.size.now a.listed.now a.z c.requires.0 (on_vertices a.on.now) l.result l.new.line l.new.places l.ensures in
+    let y : l.result ≤ length l.new.line = search rules in
+    sym (length-take-le l.result l.new.line y)
+
+pub store-requires : goal.store-requires
+store-requires c =
+    let a = c.args in
+    let l = c.line_up-n in
+    let x : l.result ≤ 128 = lined_small a.first.now a.size.now a.listed.now a.z c.requires.0 (on_vertices a.on.now) l.result l.new.line l.new.places l.ensures in
+    let y : l.result ≤ length l.new.line = search rules in
+    lined_fits a.first.now a.size.now a.listed.now a.z c.requires.0 (on_vertices a.on.now) l.result l.new.line l.new.places l.ensures y a.cells.now c.requires.1
+
+pub overflow_cast-counts : goal.overflow_cast-counts
+overflow_cast-counts c =
+    let a = c.args in
+    let l = c.line_up-n in
+    let x : l.result ≤ 128 = lined_small a.first.now a.size.now a.listed.now a.z c.requires.0 (on_vertices a.on.now) l.result l.new.line l.new.places l.ensures in
+    search rules
+
+pub returns : goal.returns
+returns c =
+    let a = c.args in
+    let l = c.line_up-n in
+    let x : l.result ≤ 128 = lined_small a.first.now a.size.now a.listed.now a.z c.requires.0 (on_vertices a.on.now) l.result l.new.line l.new.places l.ensures in
+    let y : l.result ≤ length l.new.line = search rules in
+    filled_zone a.first.now a.size.now a.listed.now a.z c.requires.0 (on_vertices a.on.now) l.result l.new.line l.new.places l.ensures y a.cells.now c.requires.1 a.counts.now c.store.new.part c.store.ensures

@@ -1,0 +1,17 @@
+use borrow.Author.Rules.{rules}
+use native.Mathlib.Omega.{arith}
+use Prim.Native.Nat.{◌-◌, ◌≤◌}
+use mathlib.Core.Path.{◌≡◌, refl, sym, ◌∙◌}
+use lib.ListN.{drop}
+use borrow.Author.Tests.{not-true, not-false}
+use Rattle.spec.specs.Layout.{Map, kinds_from}
+use Rattle.zoning.specs.Zones.{zones_in}
+use Rattle.zoning.specs.Found.{heads_of}
+use Rattle.layout.specs.Kinds.{Ready, kinds_bad, kinds_good, kinds_all}
+use Rattle.layout.proofs.map.test_kinds.Given as goal
+
+abbrev pub invariant-loop-i : goal.invariant-loop-i
+invariant-loop-i l = (l.i ≤ l.count) × ((m : Map) → Ready l.rows m (heads_of l.read) l.read.listed l.read.zone l.count → kinds_from m 0 (zones_in (heads_of l.read) l.read.listed l.count) ≡ kinds_from m l.i (drop l.i (zones_in (heads_of l.read) l.read.listed l.count)))
+
+abbrev pub decreases-loop-i : goal.decreases-loop-i
+decreases-loop-i l = l.count - l.i

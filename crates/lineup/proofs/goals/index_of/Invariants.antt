@@ -1,0 +1,14 @@
+use borrow.Author.Rules.{rules}
+use native.Mathlib.Omega.{arith}
+use Prim.Native.Nat.{ℕ, ◌+◌, ◌-◌, ◌≤◌}
+use mathlib.Core.Path.{◌≡◌, ap, sym, ◌∙◌}
+use lib.Seq.{slice}
+use Rattle.spec.specs.Outcome.{index_of}
+use Rattle.lineup.specs.Goals.{index_here, index_past, index_none}
+use Rattle.lineup.proofs.goals.index_of.Given as goal
+
+abbrev pub invariant-loop-i : goal.invariant-loop-i
+invariant-loop-i l = (l.i ≤ l.n) × (l.i + index_of l.r (slice l.i l.n l.robots) ≡ index_of l.r (slice 0 l.n l.robots))
+
+abbrev pub decreases-loop-i : goal.decreases-loop-i
+decreases-loop-i l = l.n - l.i

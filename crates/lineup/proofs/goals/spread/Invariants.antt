@@ -1,0 +1,17 @@
+use borrow.Author.Rules.{rules}
+use native.Mathlib.Omega.{arith}
+use Prim.Native.Nat.{ℕ, ◌+◌, ◌-◌, ◌≤◌}
+use mathlib.Core.Path.{◌≡◌, refl, ap, sym, ◌∙◌}
+use mathlib.Core.List.{List, ◌∷◌, ◌++◌, append-nil}
+use lib.ListN.{length, take, length-set}
+use lib.Seq.{slice}
+use Rattle.lineup.specs.Line.{stored}
+use Rattle.lineup.specs.Goals.{goals_from, goals_more, goals_done}
+use Rattle.lineup.proofs.goals.spread.Given as goal
+
+abbrev pub invariant-loop-i : goal.invariant-loop-i
+invariant-loop-i l = (l.i ≤ l.n) × (length l.goals ≡ length l.initial.goals)
+    × (take l.i l.goals ++ goals_from l.t l.u l.j (slice l.i l.n l.places) l.i ≡ goals_from l.t l.u l.j (slice 0 l.n l.places) 0)
+
+abbrev pub decreases-loop-i : goal.decreases-loop-i
+decreases-loop-i l = l.n - l.i

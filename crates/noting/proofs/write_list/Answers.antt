@@ -1,0 +1,17 @@
+use borrow.Author.Rules.{rules}
+use Prim.Native.Nat.{◌-◌}
+use lib.ListN.{length}
+use Rattle.motion.specs.Tables.{on_vertices}
+use Rattle.noting.specs.Follow.{Following, following_start, following_next, following_end}
+use native.Mathlib.Omega.{arith}
+use Rattle.noting.proofs.write_list.Goals as goal
+
+pub loop-i-init : goal.loop-i-init
+loop-i-init c = following_start _ _ _ _ _ _
+
+pub loop-i-preserved : goal.loop-i-preserved
+loop-i-preserved c =
+    following_next _ _ _ _ _ _ c.loop-i.i _ c.loop-i.out _ c.loop-i.invariant c.loop-i-test.true c.robot_after-x.ensures.0 c.put_byte.ensures
+
+pub returns : goal.returns
+returns c = following_end _ _ _ _ _ _ c.loop-i.i c.loop-i.out c.loop-i.invariant c.loop-i-test.false

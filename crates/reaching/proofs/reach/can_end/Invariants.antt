@@ -1,0 +1,13 @@
+use borrow.Author.Rules.{rules}
+use native.Mathlib.Omega.{arith}
+use Prim.Native.Nat.{◌-◌}
+use lib.ListN.{length}
+use Rattle.motion.specs.Tables.{on_vertices}
+use Rattle.reaching.specs.Reach.{Walking, walk_start, walk_short, walk_end, walk_differ, walk_on}
+use Rattle.reaching.proofs.reach.can_end.Given as goal
+
+abbrev pub invariant-loop-i : goal.invariant-loop-i
+invariant-loop-i l = Walking (on_vertices l.robots) (on_vertices l.goals) l.zone l.i l.k
+
+abbrev pub decreases-loop-i : goal.decreases-loop-i
+decreases-loop-i l = length l.zone - l.i

@@ -1,0 +1,13 @@
+use borrow.Author.Rules.{rules}
+use native.Mathlib.Omega.{arith}
+use Prim.Native.Nat.{ℕ, ◌-◌, ◌≤◌}
+use mathlib.Core.Path.{◌≡◌, ap, ◌∙◌}
+use lib.ListN.{length, drop}
+use Rattle.tabling.specs.Places.{free_word, free_half, free_start, free_empty, free_taken}
+use Rattle.tabling.proofs.placing.free_cells.Given as goal
+
+abbrev pub invariant-loop-k : goal.invariant-loop-k
+invariant-loop-k l = (l.k ≤ length l.cells) × (l.k ≤ 64) × (l.w ≡ free_word (64 - l.k) (drop l.k l.cells))
+
+abbrev pub decreases-loop-k : goal.decreases-loop-k
+decreases-loop-k l = l.k

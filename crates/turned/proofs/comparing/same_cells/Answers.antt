@@ -1,0 +1,30 @@
+use borrow.Author.Rules.{rules}
+use Prim.Native.Nat.{◌-◌, ◌≤◌}
+use mathlib.Core.Path.{◌≡◌, refl, ◌∙◌}
+use lib.ListN.{length, drop}
+use Rattle.spec.specs.Outcome.{same_list}
+use Rattle.spec.specs.State.{arrangement_of}
+use Rattle.motion.specs.Tables.{on_vertices}
+use Rattle.turned.specs.Comparing.{cells_on, cells_differ, cells_over}
+use Rattle.turned.proofs.comparing.same_cells.Goals as goal
+
+pub loop-i-init : goal.loop-i-init
+loop-i-init c = (search rules, refl)
+
+pub returns-then-x-y : goal.returns-then-x-y
+returns-then-x-y c =
+    let a = c.args in
+    let o = c.loop-i in
+    cells_differ (on_vertices a.robots.now) (on_vertices a.goals.now) a.zone.now o.i c.robot_at-x.result.0 c.robot_at-y.result.0 (search rules) c.robot_at-x.ensures c.robot_at-y.ensures c.if-x-y.true ∙ o.invariant.1
+
+pub loop-i-preserved : goal.loop-i-preserved
+loop-i-preserved c =
+    let a = c.args in
+    let o = c.loop-i in
+    (search rules, cells_on (on_vertices a.robots.now) (on_vertices a.goals.now) a.zone.now o.i c.robot_at-x.result.0 c.robot_at-y.result.0 (search rules) c.robot_at-x.ensures c.robot_at-y.ensures c.if-x-y.false ∙ o.invariant.1)
+
+pub returns : goal.returns
+returns c =
+    let a = c.args in
+    let o = c.loop-i in
+    cells_over (on_vertices a.robots.now) (on_vertices a.goals.now) a.zone.now o.i (search rules) ∙ o.invariant.1

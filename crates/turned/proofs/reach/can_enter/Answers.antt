@@ -1,0 +1,24 @@
+use borrow.Author.Rules.{rules}
+use native.Mathlib.Omega.{arith}
+use mathlib.Core.Path.{sym, ◌∙◌}
+use Rattle.spec.specs.State.{arrangement_of}
+use Rattle.motion.specs.Tables.{on_vertices}
+use Rattle.motion.specs.Across.{arrangement_length}
+use Rattle.circle.specs.Reading.{enter_inside, enter_vacant, enter_outside}
+use Rattle.turned.proofs.reach.can_enter.Goals as goal
+
+pub returns-then-place_of-zone : goal.returns-then-place_of-zone
+returns-then-place_of-zone c =
+    let a = c.args in
+    enter_inside (arrangement_of (on_vertices a.robots.now) a.zone.now) a.j a.behind (omega (arith, c.place_of.ensures, c.if-place_of-zone.true, arrangement_length (on_vertices a.robots.now) a.zone.now))
+
+pub returns-then-behind-eq255 : goal.returns-then-behind-eq255
+returns-then-behind-eq255 c =
+    let a = c.args in
+    c.is_vacant.ensures
+    ∙ enter_vacant (arrangement_of (on_vertices a.robots.now) a.zone.now) a.j a.behind (omega (arith, c.place_of.ensures, c.if-place_of-zone.false, arrangement_length (on_vertices a.robots.now) a.zone.now)) c.if-behind-eq255.true
+
+pub returns : goal.returns
+returns c =
+    let a = c.args in
+    enter_outside (arrangement_of (on_vertices a.robots.now) a.zone.now) a.j a.behind (omega (arith, c.place_of.ensures, c.if-place_of-zone.false, arrangement_length (on_vertices a.robots.now) a.zone.now)) c.if-behind-eq255.false

@@ -1,0 +1,20 @@
+use borrow.Author.Rules.{rules}
+use native.Mathlib.Omega.{arith}
+use Prim.Native.Nat.{ℕ, ◌+◌, ◌-◌, ◌<◌}
+use mathlib.Core.Path.{◌≡◌, refl, ap, sym, ◌∙◌}
+use lib.ListN.{length, get_or, take}
+use Rattle.spec.specs.Arrangement.{last_named}
+use Rattle.spec.specs.Ring.{wrap, opened, ring_behind}
+use Rattle.spec.specs.State.{robot_on, arrangement_of}
+use Rattle.motion.specs.Tables.{on_vertices}
+use Rattle.circle.specs.Places.{previous_place, wrap_under, wrap_previous}
+use Rattle.turns.specs.Entry.{walk_start, walk_all, walk_free, walk_taken, walk_over}
+use Rattle.turns.proofs.turning.look_back.Given as goal
+
+abbrev pub invariant-loop-k : goal.invariant-loop-k
+invariant-loop-k l =
+    (l.m ≡ length l.zone) × (l.k < length l.zone) × (l.at ≡ wrap (length l.zone) (l.j + (l.k + 1)))
+    × (last_named (take l.k (opened l.j (arrangement_of (on_vertices l.robots) l.zone))) ≡ ring_behind (arrangement_of (on_vertices l.robots) l.zone) l.j)
+
+abbrev pub decreases-loop-k : goal.decreases-loop-k
+decreases-loop-k l = l.k
