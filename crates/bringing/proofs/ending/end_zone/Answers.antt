@@ -14,9 +14,8 @@ use Rattle.bringing.proofs.ending.end_zone.Goals as goal
 pub bring_to_goals-requires : goal.bring_to_goals-requires
 unfolding arrangement_of
 bring_to_goals-requires c =
-    let s = c in
-    let a = s.args in
-    record { zone_len_bound = rw (part (get_or a.first.now a.z 0) (get_or a.size.now a.z 0) a.listed.now) s.requires.0.long; listed = rw (part (get_or a.first.now a.z 0) (get_or a.size.now a.z 0) a.listed.now, s.requires.1.1.0) s.requires.0.once; zone_value = rw (part (get_or a.first.now a.z 0) (get_or a.size.now a.z 0) a.listed.now) s.requires.1.0; proper = rw (part (get_or a.first.now a.z 0) (get_or a.size.now a.z 0) a.listed.now) s.requires.1.1.1 }
+    let a = c.args in
+    record { zone_len_bound = rw (part (get_or a.first.now a.z 0) (get_or a.size.now a.z 0) a.listed.now) c.requires.has_zone.long; listed = rw (part (get_or a.first.now a.z 0) (get_or a.size.now a.z 0) a.listed.now, c.requires.robots_len) c.requires.has_zone.once; zone_value = rw (part (get_or a.first.now a.z 0) (get_or a.size.now a.z 0) a.listed.now) c.requires.z_value; proper = rw (part (get_or a.first.now a.z 0) (get_or a.size.now a.z 0) a.listed.now) c.requires.proper }
 
 pub returns : goal.returns
 unfolding arrangement_of

@@ -16,10 +16,9 @@ use Rattle.crossing.proofs.sides.enter_at.Goals as goal
 pub enter_room-requires : goal.enter_room-requires
 unfolding arrangement_of
 enter_room-requires c =
-    let s = c in
-    let a = s.args in
+    let a = c.args in
     let z : ℕ = get_or a.zone.now a.v 0 in
-    record { zone_len_bound = (rw (part (get_or a.first.now z 0) (get_or a.size.now z 0) a.listed.now) s.requires.1.0.here.long, rw (part (get_or a.first.now z 0) (get_or a.size.now z 0) a.listed.now) s.requires.1.0.inside, rw (part (get_or a.first.now z 0) (get_or a.size.now z 0) a.listed.now) s.requires.1.0.there); listed = rw (part (get_or a.first.now z 0) (get_or a.size.now z 0) a.listed.now, s.requires.1.1.1.0) s.requires.1.0.here.once; proper = rw (part (get_or a.first.now z 0) (get_or a.size.now z 0) a.listed.now) s.requires.1.1.1.1.0; zone_value = rw (part (get_or a.first.now z 0) (get_or a.size.now z 0) a.listed.now) (sym s.requires.1.1.1.1.1 ∙ c.if-n-eq0.true) }
+    record { zone_len_bound = (rw (part (get_or a.first.now z 0) (get_or a.size.now z 0) a.listed.now) c.requires.has_vertex.here.long, rw (part (get_or a.first.now z 0) (get_or a.size.now z 0) a.listed.now) c.requires.has_vertex.inside, rw (part (get_or a.first.now z 0) (get_or a.size.now z 0) a.listed.now) c.requires.has_vertex.there); listed = rw (part (get_or a.first.now z 0) (get_or a.size.now z 0) a.listed.now, c.requires.robots_len) c.requires.has_vertex.here.once; proper = rw (part (get_or a.first.now z 0) (get_or a.size.now z 0) a.listed.now) c.requires.proper; zone_value = rw (part (get_or a.first.now z 0) (get_or a.size.now z 0) a.listed.now) (sym c.requires.n_value ∙ c.if-n-eq0.true) }
 
 pub returns-then-n-eq0 : goal.returns-then-n-eq0
 unfolding arrangement_of
@@ -32,24 +31,22 @@ returns-then-n-eq0 c =
 
 pub slice_bounds-enter_in-end-2 : goal.slice_bounds-enter_in-end-2
 slice_bounds-enter_in-end-2 c =
-    let s = c in sym (cells_length s.args.n s.requires.0.0)
+    sym (cells_length c.args.n c.requires.n_bound.0)
 
 pub enter_in-requires : goal.enter_in-requires
 unfolding arrangement_of
 enter_in-requires c =
-    let s = c in
-    let a = s.args in
+    let a = c.args in
     let z : ℕ = get_or a.zone.now a.v 0 in
-    let x : length {A = ℕ} (take a.n (replicate 128 0)) ≡ a.n = cells_length a.n s.requires.0.0 in
-    record { zone_len_bound = (rw (part (get_or a.first.now z 0) (get_or a.size.now z 0) a.listed.now) s.requires.1.0.here.long, rw (part (get_or a.first.now z 0) (get_or a.size.now z 0) a.listed.now) s.requires.1.0.inside, omega (arith, x, s.requires.0), omega (arith, x, s.requires.0)); listed = rw (part (get_or a.first.now z 0) (get_or a.size.now z 0) a.listed.now, s.requires.1.1.1.0) s.requires.1.0.here.once; numbered = rw x s.requires.1.1.0; proper = rw (part (get_or a.first.now z 0) (get_or a.size.now z 0) a.listed.now) s.requires.1.1.1.1.0; list_len = x ∙ rw (part (get_or a.first.now z 0) (get_or a.size.now z 0) a.listed.now) s.requires.1.1.1.1.1 }
+    let x : length {A = ℕ} (take a.n (replicate 128 0)) ≡ a.n = cells_length a.n c.requires.n_bound.0 in
+    record { zone_len_bound = (rw (part (get_or a.first.now z 0) (get_or a.size.now z 0) a.listed.now) c.requires.has_vertex.here.long, rw (part (get_or a.first.now z 0) (get_or a.size.now z 0) a.listed.now) c.requires.has_vertex.inside, omega (arith, x, c.requires.n_bound), omega (arith, x, c.requires.n_bound)); listed = rw (part (get_or a.first.now z 0) (get_or a.size.now z 0) a.listed.now, c.requires.robots_len) c.requires.has_vertex.here.once; numbered = rw x c.requires.numbered; proper = rw (part (get_or a.first.now z 0) (get_or a.size.now z 0) a.listed.now) c.requires.proper; list_len = x ∙ rw (part (get_or a.first.now z 0) (get_or a.size.now z 0) a.listed.now) c.requires.n_value }
 
 pub returns : goal.returns
 unfolding arrangement_of
 returns c =
-    let s = c in
-    let a = s.args in
+    let a = c.args in
     let z : ℕ = get_or a.zone.now a.v 0 in
-    let x : length {A = ℕ} (take a.n (replicate 128 0)) ≡ a.n = cells_length a.n s.requires.0.0 in
+    let x : length {A = ℕ} (take a.n (replicate 128 0)) ≡ a.n = cells_length a.n c.requires.n_bound.0 in
     c.enter_in.ensures
     ∙ ap (λ (vs : List ℕ). made_all (world_in a.robots.now a.vertices.now a.count a.out.now) (across vs (enter_moves (kind_at a.kind.now a.zone.now a.v) (arrangement_of (tabled a.robots.now a.vertices.now) vs) (get_or a.place.now a.v 0) a.behind (held_part a.file.now (a.from + length {A = ℕ} (take a.n (replicate 128 0))) a.from (length {A = ℕ} (take a.n (replicate 128 0))))))) (part (get_or a.first.now z 0) (get_or a.size.now z 0) a.listed.now)
     ∙ ap (λ (y : ℕ). made_all (world_in a.robots.now a.vertices.now a.count a.out.now) (across (vertices_at a.first.now a.size.now a.listed.now a.zone.now a.v) (enter_moves (kind_at a.kind.now a.zone.now a.v) (arrangement_of (tabled a.robots.now a.vertices.now) (vertices_at a.first.now a.size.now a.listed.now a.zone.now a.v)) (get_or a.place.now a.v 0) a.behind (held_part a.file.now (a.from + y) a.from y)))) x

@@ -14,10 +14,9 @@ use Rattle.crossing.proofs.sides.enter_in.Goals as goal
 pub enter-requires : goal.enter-requires
 unfolding arrangement_of
 enter-requires c =
-    let s = c in
-    let a = s.args in
-    let e = c.copy_list.ensures (a.from + length a.list.now) s.requires.0.3 (le_refl _) in
-    record { zone_len_bound = (s.requires.0.0, s.requires.0.1, search rules); listed = s.requires.1.0; numbered = rw e s.requires.1.1.0; proper = s.requires.1.1.1.0; list_len = search (rules, s.requires.1.1.1.1) }
+    let a = c.args in
+    let e = c.copy_list.ensures (a.from + length a.list.now) c.requires.zone_len_bound.3 (le_refl _) in
+    record { zone_len_bound = (c.requires.zone_len_bound.0, c.requires.zone_len_bound.1, search rules); listed = c.requires.listed; numbered = rw e c.requires.numbered; proper = c.requires.proper; list_len = search (rules, c.requires.list_len) }
 
 pub returns : goal.returns
 unfolding arrangement_of

@@ -14,18 +14,16 @@ use Rattle.crossing.proofs.sides.leave_at.Goals as goal
 pub returns-then-robot_in-r : goal.returns-then-robot_in-r
 unfolding arrangement_of
 returns-then-robot_in-r c =
-    let s = c in
-    let a = s.args in
-    left_ready (kind_at a.kind.now a.zone.now a.u) (tabled a.robots.now a.vertices.now) (vertices_at a.first.now a.size.now a.listed.now a.zone.now a.u) s.requires.1.1.1 (get_or a.place.now a.u 0) s.requires.0.inside a.r a.u (world_in a.robots.now a.vertices.now a.count a.out.now) s.requires.0.there s.requires.1.0 (sym c.if-robot_in-r.true ∙ c.robot_in.ensures)
+    let a = c.args in
+    left_ready (kind_at a.kind.now a.zone.now a.u) (tabled a.robots.now a.vertices.now) (vertices_at a.first.now a.size.now a.listed.now a.zone.now a.u) c.requires.proper (get_or a.place.now a.u 0) c.requires.has_vertex.inside a.r a.u (world_in a.robots.now a.vertices.now a.count a.out.now) c.requires.has_vertex.there c.requires.u_value (sym c.if-robot_in-r.true ∙ c.robot_in.ensures)
 
 pub leave_in-requires : goal.leave_in-requires
 unfolding arrangement_of
 leave_in-requires c =
-    let s = c in
-    let a = s.args in
+    let a = c.args in
     let z : ℕ = get_or a.zone.now a.u 0 in
     let e = part (get_or a.first.now z 0) (get_or a.size.now z 0) a.listed.now in
-    record { zone_len_bound = (rw e s.requires.0.here.long, rw e s.requires.0.inside, rw e s.requires.0.there); listed = rw (e, s.requires.1.1.0) s.requires.0.here.once; j_value = rw e s.requires.1.0; proper = rw e s.requires.1.1.1 }
+    record { zone_len_bound = (rw e c.requires.has_vertex.here.long, rw e c.requires.has_vertex.inside, rw e c.requires.has_vertex.there); listed = rw (e, c.requires.robots_len) c.requires.has_vertex.here.once; j_value = rw e c.requires.u_value; proper = rw e c.requires.proper }
 
 pub returns : goal.returns
 unfolding arrangement_of
