@@ -1,0 +1,25 @@
+use borrow.Author.Rules.{rules}
+use mathlib.Core.Path.{◌≡◌, refl, ap}
+use Prim.Native.Nat.{ℕ, ◌+◌, ◌-◌, ◌*◌, ◌≤◌}
+use lib.ListN.{length}
+use Rattle.spec.specs.Layout.{Map}
+use Rattle.spec.specs.State.{State}
+use Rattle.theory.specs.Maps.Layout.{Accepted}
+use Rattle.zoning.specs.declared.MapFault.{MapFault}
+use Rattle.layout.specs.Map.{MapHeld}
+use Rattle.wire.specs.Payload.{place_of}
+use Rattle.motion.specs.States.{moved_by}
+use Rattle.motion.specs.Tables.{tabled}
+use Rattle.replay.specs.Moves.{file_bytes, three_move, three_bytes, three_move_lem, lent_tables}
+use Rattle.drawing.specs.Drawn.{lent_map, lent_held, EndsOn, Drawing, drawing_first, drawing_next, all_drawn}
+use native.Mathlib.Omega.{arith}
+use Rattle.drawing.proofs.draw_moves.Given as goal
+
+abbrev pub invariant-loop-i : goal.invariant-loop-i
+invariant-loop-i l =
+    (l.i ≤ l.count) × (l.d.steps ≤ l.i) × (l.d.bytes ≤ 2 + l.i * 132) × (l.at ≡ place_of (2 + l.i * 3)) × (length l.out ≡ length l.initial.out) × (length l.robots ≡ 128) × (length l.vertices ≡ 64)
+    × ((f : MapFault) (a b : ℕ) (m : Map) → MapHeld (lent_map f a b l.kinds l.firsts l.sizes l.listed l.zone l.place) m → Accepted m → EndsOn m (file_bytes l.file) l.count
+    → Drawing m (file_bytes l.file) l.count (tabled l.initial.robots l.initial.vertices) l.initial.out l.i (moved_by (tabled l.robots l.vertices) (three_move l.last)) l.d.steps l.d.bytes l.out)
+
+abbrev pub decreases-loop-i : goal.decreases-loop-i
+decreases-loop-i l = l.count - l.i

@@ -1,0 +1,12 @@
+use Prim.Native.Nat.{◌-◌}
+use native.Mathlib.Omega.{arith}
+use Rattle.replay.specs.Moves.{file_bytes}
+use Rattle.lines.specs.Text.{put_length}
+use Rattle.lines.specs.Lines.{Lined, lined_start, lined_more, lined_end}
+use Rattle.lines.proofs.moves.put_lines.Given as goal
+
+abbrev pub invariant-loop-i : goal.invariant-loop-i
+invariant-loop-i l = Lined (file_bytes l.moves) (file_bytes l.sheet) l.count l.initial.text l.at l.i l.text l.next
+
+abbrev pub decreases-loop-i : goal.decreases-loop-i
+decreases-loop-i l = l.count - l.i
