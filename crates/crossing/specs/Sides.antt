@@ -7,7 +7,7 @@ use Rattle.spec.specs.ZoneKind.{behind_of, can_leave}
 use Rattle.theory.specs.Basics.Tests.{of_true}
 use Rattle.theory.specs.Maps.Cells.{cell_of_lem}
 use Rattle.theory.specs.Zones.Robots.{runs_named}
-use Rattle.theory.specs.Zones.Kinds.{laws}
+use Rattle.theory.proofs.Zones.Kinds.{laws}
 use Rattle.theory.specs.Zones.Crossing.{Proper, extra_of}
 use Rattle.motion.specs.World.{World, made, made_all}
 use Rattle.motion.specs.Across.{arrangement_length, across_move_lem, made_nothing, made_last}

@@ -22,7 +22,8 @@ use Rattle.layout.specs.Tables.{entry_of, entry_is}
 use Rattle.writer.specs.Laid.{laid_all, laid_length, laid_append}
 use Rattle.motion.specs.Tables.{tabled, on_vertices}
 use Rattle.drawing.specs.declared.Drawn.{Drawn}
-use Rattle.noting.specs.Follow.{followed, step_from, follow_length}
+use Rattle.noting.specs.Follow.{followed, step_from}
+use Rattle.noting.proofs.Follow.{follow_length}
 use Rattle.replay.specs.Moves.{move_by, moves_by, moves_next, moves_done}
 
 -- the bytes of one step

@@ -8,7 +8,8 @@ use Rattle.spec.specs.Arrangement.{Move}
 use Rattle.spec.specs.State.{Step, plan_payload}
 use Rattle.spec.specs.Services.{Instance, instance_of, plan_moves, judging, resolving, drawing, rounds}
 use Rattle.spec.specs.Terms as term
-use Rattle.theory.specs.Terms.Services.{cleared, complete, sound, resolves, round_trip, drawn, timed, zeroed}
+use Rattle.theory.specs.Terms.Services.{zeroed}
+use Rattle.theory.proofs.Terms.Services.{cleared, complete, sound, resolves, round_trip, drawn, timed}
 use Rattle.galzpuna.specs.declared.Answer.{Answer}
 use Rattle.galzpuna.specs.Services.{answered}
 

@@ -21,13 +21,13 @@ use Rattle.theory.specs.Zones.Arrangements.{count_put, free_count, order_short, 
 use Rattle.theory.specs.Zones.Robots.{SameRobots, distinct_put, runs_robots}
 use Rattle.theory.specs.Zones.Hall.Order.{runs_order}
 use Rattle.theory.specs.Zones.Hall.Places.{order_none}
-use Rattle.theory.specs.Zones.Clique.Rule.{clique_reach}
+use Rattle.theory.proofs.Zones.Clique.Rule.{clique_reach}
 use Rattle.theory.specs.Zones.Clique.Entering.{named_robots}
 use Rattle.theory.specs.Zones.Ring.Turning.{Turned, turned_swap, turned_trans, once_turned}
 use Rattle.theory.specs.Zones.Ring.Order.{runs_turned}
 use Rattle.theory.specs.Zones.Ring.Opened.{order_opened, none_opened}
 use Rattle.theory.specs.Zones.Kinds.{KindOf, clique, ring, hall, kind?, as_hall}
-use Rattle.theory.specs.Zones.Configurations.{ring_configuration}
+use Rattle.theory.proofs.Zones.Configurations.{ring_configuration}
 use Rattle.theory.specs.Zones.Crossing.{Proper, Absent, Filled, kept, reach_proper, reach_absent}
 use Rattle.orders.specs.Orders.{packed, Holds, put_in, entry_in, turned_by, ring_entered, clique_entered, entered}
 use Rattle.orders.specs.Packed.{packed_length, packed_order, packed_free, order_map, holds_order, holds_from, holds_moved, holds_count}

@@ -12,12 +12,12 @@ use Rattle.theory.specs.Zones.Moves.{reach_sym, reach_trans, runs_length}
 use Rattle.theory.specs.Zones.Robots.{SameRobots, cell_clear, distinct_clear, runs_robots, distinct_goal}
 use Rattle.theory.specs.Zones.Hall.Order.{IsHall, runs_order}
 use Rattle.theory.specs.Zones.Hall.Ending.{hall_reach}
-use Rattle.theory.specs.Zones.Clique.Rule.{clique_reach}
+use Rattle.theory.proofs.Zones.Clique.Rule.{clique_reach}
 use Rattle.theory.specs.Zones.Ring.Turning.{Turned, turned_swap, turned_trans}
 use Rattle.theory.specs.Zones.Ring.Order.{runs_turned}
 use Rattle.theory.specs.Zones.Ring.Opened.{order_opened, round_same}
 use Rattle.theory.specs.Zones.Kinds.{KindOf, clique, ring, hall, kind?}
-use Rattle.theory.specs.Zones.Configurations.{ring_configuration}
+use Rattle.theory.proofs.Zones.Configurations.{ring_configuration}
 use Rattle.theory.specs.Zones.Crossing.{Proper, kept, reach_proper, not_full}
 use Rattle.orders.specs.Orders.{packed, Holds, without}
 use Rattle.orders.specs.Packed.{packed_order, holds_from}

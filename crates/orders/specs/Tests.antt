@@ -17,7 +17,7 @@ use Rattle.theory.specs.Basics.Tests.{Eqb, same, other, eqb?, eqb_true, eq→eqb
 use Rattle.theory.specs.Zones.Moves.{reach_sym, reach_trans, runs_full}
 use Rattle.theory.specs.Zones.Hall.Ending.{hall_reach}
 use Rattle.theory.specs.Zones.Kinds.{KindOf, clique, ring, hall, kind?, as_hall}
-use Rattle.theory.specs.Zones.Configurations.{leaving, entering, ending}
+use Rattle.theory.proofs.Zones.Configurations.{leaving, entering, ending}
 use Rattle.theory.specs.Zones.Crossing.{Proper, kept, reach_proper, extra_of}
 use Rattle.orders.specs.Orders.{packed, Holds, without, entry_in, pinned, hall_leaves, leave_test, same_members, list_met, clique_enters, ring_enters, hall_enters, enter_test, end_test}
 use Rattle.orders.specs.Packed.{packed_length, packed_order, packed_full, packed_last, packed_cell, order_map}

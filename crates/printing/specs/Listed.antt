@@ -16,10 +16,12 @@ use Rattle.theory.specs.Basics.Outcomes.{bound, bind, after}
 use Rattle.theory.specs.Codec.Words.{word_u16}
 use Rattle.theory.specs.Maps.Moves.{legal_all_lem}
 use Rattle.theory.specs.Plans.MoveList as theory
-use Rattle.theory.specs.Services.Judged.{Cleared-plan, cleared_plan}
+use Rattle.theory.specs.Services.Judged.{Cleared-plan}
+use Rattle.theory.proofs.Services.Judged.{cleared_plan}
 use Rattle.theory.specs.Services.Sheets.{rounds_small, sheet_fits, sheet_length}
 use Rattle.theory.specs.Services.Answers.{payload_within}
-use Rattle.theory.specs.Terms.Services.{refuses, resolves, times}
+use Rattle.theory.specs.Terms.Services.{refuses}
+use Rattle.theory.proofs.Terms.Services.{resolves, times}
 use Rattle.wire.specs.Payload.{place_of, word_at, lt_or_ge}
 use Rattle.answers.specs.Delivered.{file_length, fits_whole}
 use Rattle.replay.specs.Moves.{moves_by, bytes_of, file_bytes, moves_same}

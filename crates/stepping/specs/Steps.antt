@@ -10,7 +10,7 @@ use Rattle.spec.specs.Terms.{kind_of, place_of, arrangement_in}
 use Rattle.theory.specs.Basics.Tests.{of_true, true_of, and_left, and_right}
 use Rattle.theory.specs.Maps.Cells.{cell_of_lem}
 use Rattle.theory.specs.Zones.Robots.{runs_named}
-use Rattle.theory.specs.Zones.Kinds.{laws}
+use Rattle.theory.proofs.Zones.Kinds.{laws}
 use Rattle.theory.specs.Zones.Crossing.{Proper, extra_of}
 use Rattle.theory.specs.Plans.Taken.{Taken, leaving}
 use Rattle.theory.specs.Plans.Step.{proper}

@@ -13,7 +13,8 @@ use Rattle.spec.specs.Terms.{zone_count, kind_of, size_of, vertex_at, place_of, 
 use Rattle.theory.specs.Maps.Cells.{arrangement_length}
 use Rattle.theory.specs.Maps.Consistent.{Consistent}
 use Rattle.theory.specs.Plans.Taken.{Taken, moves_of}
-use Rattle.theory.specs.Plans.Step.{Made, made, proper, absent}
+use Rattle.theory.specs.Plans.Step.{Made, proper, absent}
+use Rattle.theory.proofs.Plans.Step.{made}
 use Rattle.orders.specs.Orders.{Holds, without, entered}
 use Rattle.orders.specs.Leaving.{left}
 use Rattle.orders.specs.Entering.{entered_holds}

@@ -16,7 +16,7 @@ use Rattle.theory.specs.Maps.Layout.{Accepted}
 use Rattle.theory.specs.Maps.Cells.{arrangement_length}
 use Rattle.theory.specs.Maps.Consistent.{Consistent, consistent_all}
 use Rattle.theory.specs.Maps.Inside.{Acted, act}
-use Rattle.theory.specs.Zones.Kinds.{laws}
+use Rattle.theory.proofs.Zones.Kinds.{laws}
 use Rattle.theory.specs.Plans.Step.{proper}
 use Rattle.motion.specs.World.{World, made_all, made_append, state_is}
 

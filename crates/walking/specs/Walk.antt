@@ -16,9 +16,10 @@ use Rattle.theory.specs.Maps.Layout.{Accepted}
 use Rattle.theory.specs.Maps.Cells.{arrangement_length}
 use Rattle.theory.specs.Maps.Consistent.{Consistent, consistent_all}
 use Rattle.theory.specs.Maps.Inside.{act}
-use Rattle.theory.specs.Zones.Kinds.{laws}
+use Rattle.theory.proofs.Zones.Kinds.{laws}
 use Rattle.theory.specs.Plans.Taken.{Taken, leaving, entering, moves_of}
-use Rattle.theory.specs.Plans.Step.{proper, made}
+use Rattle.theory.specs.Plans.Step.{proper}
+use Rattle.theory.proofs.Plans.Step.{made}
 use Rattle.motion.specs.World.{World, made_all, made_append, made_one, state_is}
 use Rattle.motion.specs.World as world
 use Rattle.walking.specs.Tests.{step_tests, step_moves, step_ran, step_tests_lem, tests_passed}

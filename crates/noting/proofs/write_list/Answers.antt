@@ -1,9 +1,4 @@
-use borrow.Author.Rules.{rules}
-use Prim.Native.Nat.{◌-◌}
-use lib.ListN.{length}
-use Rattle.motion.specs.Tables.{on_vertices}
-use Rattle.noting.specs.Follow.{Following, following_start, following_next, following_end}
-use native.Mathlib.Omega.{arith}
+use Rattle.noting.proofs.Follow.{following_start, following_next, following_end}
 use Rattle.noting.proofs.write_list.Goals as goal
 
 pub loop-i-init : goal.loop-i-init

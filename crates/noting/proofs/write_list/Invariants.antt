@@ -1,9 +1,7 @@
-use borrow.Author.Rules.{rules}
 use Prim.Native.Nat.{◌-◌}
 use lib.ListN.{length}
 use Rattle.motion.specs.Tables.{on_vertices}
-use Rattle.noting.specs.Follow.{Following, following_start, following_next, following_end}
-use native.Mathlib.Omega.{arith}
+use Rattle.noting.specs.Follow.{Following}
 use Rattle.noting.proofs.write_list.Given as goal
 
 abbrev pub invariant-loop-i : goal.invariant-loop-i

@@ -1,5 +1,4 @@
-use Rattle.noting.specs.Follow.{step_short, step_long}
-use borrow.Author.Rules.{rules}
+use Rattle.noting.proofs.Follow.{step_short, step_long}
 use Rattle.noting.proofs.write_step.Goals as goal
 
 pub returns-then-filled : goal.returns-then-filled

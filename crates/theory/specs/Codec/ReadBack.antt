@@ -84,11 +84,6 @@ read_back base kind limit p h k l =
     all_read : payload_from base kind 0 (block_count p) (file_of kind p) [] ≡ ok p
     all_read = unfold file_of block_count in read_blocks kind p base 0 ((length p + 503) / 504) (omega arith) (omega arith) (omega arith)
 
--- under a limit that two bytes can number the limit is enough
-pub read_file : (base kind limit : ℕ) (p : List ℕ) → 1 ≤ length p → length p ≤ 504 * limit → limit ≤ 65536
-    → payload_of base kind limit (file_of kind p) ≡ ok p
-read_file base kind limit p h k l = read_back base kind limit p h k (omega arith)
-
 -- ---- its bytes
 
 -- a written block is bytes, if its kind is one and the payload is bytes

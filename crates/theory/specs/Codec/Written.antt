@@ -1,5 +1,5 @@
 -- A file that is read was written so, byte for byte.
-use Rattle.std.specs.Prelude.{◌≡◌, refl, ◌↔◌, Bool, true, false, List, [], ◌∷◌, ◌++◌, drop, leb, T, eqb}
+use Rattle.std.specs.Prelude.{◌≡◌, refl, Bool, true, false, List, [], ◌∷◌, ◌++◌, drop, leb, T, eqb}
 use Rattle.std.proofs.Math.Path.{sym, ap, ap₂}
 use Rattle.std.proofs.Common.{◌∙◌, append_assoc, append-nil, le_of_eq, arith, length-take, take-append-drop, length-append, drop-cons, take-take, take_at, drop_at, take_all, lit<}
 use Prim.Native.Nat.{ℕ, ◌+◌, ◌-◌, ◌*◌, ◌≤◌, zero, suc, ◌<◌, ◌/◌, ◌%◌}
@@ -11,7 +11,6 @@ use Rattle.spec.specs.Wire.{checksum, word, block_of, head_ok, blocks_from, fill
 use Rattle.spec.specs.Terms.{Bytes}
 use Rattle.theory.specs.Basics.Outcomes.{ok_injective, passed}
 use Rattle.theory.specs.Basics.Tests.{and_left, and_right, eqb_false}
-use Rattle.theory.specs.Codec.ReadBack.{read_file}
 use Rattle.theory.specs.Codec.Blocks.{body_of, block_split, one_block, payload_step, payload_none}
 use Rattle.theory.specs.Codec.Words.{u16_word, zeros_of, bytes_take, bytes_drop, bytes_append}
 
@@ -213,12 +212,3 @@ payload_most base kind limit f p e =
     let c : length f / 512 ≤ limit = leb→le _ _ (and_right _ _ (and_right _ _ one.0)) in
     let l : length p ≤ 0 + length f / 512 * 504 = blocks_most base kind (length f / 512) 0 f [] p one.1 in
     omega arith
-
--- ---- exactly
-
--- the reader takes exactly what the writer makes, byte for byte: of bytes, under a limit that two bytes can number
-pub exact : (base kind limit : ℕ) (f p : List ℕ) → limit ≤ 65536 → Bytes f → (payload_of base kind limit f ≡ ok p) ↔ ((f ≡ file_of kind p) × (1 ≤ length p) × (length p ≤ 504 * limit))
-exact base kind limit f p h k = (
-  λ e. let w = written_file base kind limit f p k e in (w.0, w.1, w.2),
-  λ s. rw s.0 (read_file base kind limit p s.1 s.2 h),
-)

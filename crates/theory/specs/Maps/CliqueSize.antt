@@ -3,12 +3,11 @@ use Rattle.std.specs.Prelude.{◌≡◌, refl, ◌≢◌, Bool, true, false, Lis
 use Rattle.std.proofs.Common.{sym, ap, ◌∙◌, zero-add, suc-add, arith, length-append, eqb→eq, leb→le}
 use Rattle.std.proofs.Math.Decide.{dec_le}
 use Rattle.spec.specs.Outcome.{ok, ◌>>◌, check, ◌&&◌}
-use Rattle.spec.specs.Layout.{Map, Zone, Edge, has_edge, joined, linked, shaped, read_edges, edges_of, map_of, zone_at}
-use Rattle.theory.specs.Basics.Tests.{of_true, true_of, and_left, and_right}
+use Rattle.spec.specs.Layout.{Map, Zone, Edge, has_edge, joined, linked, shaped, read_edges, edges_of, map_of}
+use Rattle.theory.specs.Basics.Tests.{of_true, and_left, and_right}
 use Rattle.theory.specs.Basics.Outcomes.{ok_injective, passed, bound, seq_ok}
-use Rattle.theory.specs.Zones.Clique.Searches.{near_other}
-use Rattle.theory.specs.Maps.Layout.{Accepted, map_accepted, shaped_at}
-use Rattle.theory.specs.Maps.ZoneSize.{Different, zone_different}
+use Rattle.theory.specs.Maps.Layout.{shaped_at}
+use Rattle.theory.specs.Maps.ZoneSize.{Different}
 
 -- ---- counting edges
 
@@ -49,7 +48,7 @@ without_other a b c d (e ∷ es) n t = go (is_edge a b e) refl (is_edge c d e) r
     go false f false g t ih = rw (g, has_edge) (ih t)
 
 -- some edge of the list joins u and v
-abbrev Joins : List Edge → ℕ → ℕ → Type 0
+abbrev pub Joins : List Edge → ℕ → ℕ → Type 0
 Joins es u v = T (has_edge es (min u v) (max u v))
 
 -- different numbers are different without the first
@@ -118,7 +117,7 @@ few_joined vs es h d j = few_pairs (length vs) _ (omega (arith, pairs_joined vs 
 -- ---- a clique of a map
 
 -- every two vertices of a clique are joined
-clique_joins : (m : Map) (z : Zone) → z.kind ≡ 3 → T (shaped m z) → (i j : ℕ) → i < j → j < length z.vertices → Joins m.edges (get_or z.vertices i 0) (get_or z.vertices j 0)
+pub clique_joins : (m : Map) (z : Zone) → z.kind ≡ 3 → T (shaped m z) → (i j : ℕ) → i < j → j < length z.vertices → Joins m.edges (get_or z.vertices i 0) (get_or z.vertices j 0)
 unfolding joined linked
 clique_joins m z e t i j h k =
     let s : joined m (get_or z.vertices i 0) (get_or z.vertices j 0) ≡ true = shaped_at m z t i j h k ∙ (rw e) in
@@ -127,10 +126,6 @@ clique_joins m z e t i j h k =
 -- a clique of n vertices takes n * (n - 1) / 2 edges
 pub clique_edges : (m : Map) (z : Zone) → z.kind ≡ 3 → Different z.vertices → T (shaped m z) → pairs (length z.vertices) ≤ length m.edges
 clique_edges m z e d t = pairs_joined z.vertices m.edges d (clique_joins m z e t)
-
--- where there are at most 2,048 edges a clique has at most 64 vertices
-pub clique_small : (m : Map) (z : Zone) → z.kind ≡ 3 → Different z.vertices → length m.edges ≤ 2048 → T (shaped m z) → length z.vertices ≤ 64
-clique_small m z e d h t = few_joined z.vertices m.edges h d (clique_joins m z e t)
 
 -- ---- an accepted map
 
@@ -168,15 +163,3 @@ map_edges p m e =
     let k = seq_ok _ _ _ s.2 in
     let f = edges_few c.0.vertices p z.0.next s.0 s.1 in
     rw (← ok_injective k.2) f
-
--- a clique of an accepted map has at most 64 vertices
-pub clique_size : (p : List ℕ) (m : Map) → map_of p ≡ ok m → (z : ℕ) → z < length m.zones → (zone_at m z).kind ≡ 3 → length (zone_at m z).vertices ≤ 64
-clique_size p m e z h k =
-    few_joined (zone_at m z).vertices m.edges (map_edges p m e) (zone_different g z h) joins
-  where
-    g : Accepted m
-    g = map_accepted p m e
-
-    joins : (i j : ℕ) → i < j → j < length (zone_at m z).vertices → Joins m.edges (get_or (zone_at m z).vertices i 0) (get_or (zone_at m z).vertices j 0)
-    joins i j l n =
-        unfold joined in of_true (g.near z i j h (omega arith) n ∙ true_of (rw k (near_other (length (zone_at m z).vertices) i j (λ q. omega arith))))

@@ -2,7 +2,7 @@
 use Rattle.std.specs.Prelude.{◌≡◌, refl, ◌≢◌, not, List, [], ◌∷◌, ◌++◌, ℕ, suc, ◌+◌, ◌-◌, ◌≤◌, ◌<◌, length, get_or, take, drop, T, eqb, ltb, leb}
 use Rattle.std.proofs.Common.{sym, ap, ◌∙◌, add-zero, add-one, arith, length-drop, take-append-drop, length-append, drop-cons, drop-drop, length-take-le, drop_at, take_at, get_or-drop, leb→le, ltb→lt, eqb→eq, T_not, le→leb, lt→ltb}
 use Rattle.std.proofs.Math.Dec.{not_T}
-use Rattle.spec.specs.Outcome.{Outcome, ok, check, ◌&&◌, ◌>>◌, ◌>>=◌}
+use Rattle.spec.specs.Outcome.{Outcome, ok, check, ◌&&◌, ◌>>◌}
 use Rattle.spec.specs.Layout.{Map, joined, zone_of, zone_at}
 use Rattle.spec.specs.Arrangement.{Move, mv, full}
 use Rattle.spec.specs.ZoneKind.{can_leave, leave, can_enter, enter}
@@ -11,7 +11,7 @@ use Rattle.spec.specs.Run.{Ran, step_at}
 use Rattle.spec.specs.Terms.{arrangement_in, kind_of, place_of}
 use Rattle.theory.specs.Basics.Tests.{eq→eqb, and_both, and_left, and_right}
 use Rattle.theory.specs.Basics.Outcomes.{ok_injective, pass, passed}
-use Rattle.theory.specs.Zones.Crossing.{extra_of, enters}
+use Rattle.theory.specs.Zones.Crossing.{extra_of}
 
 -- how long the follow list of a step to vertex v is
 abbrev pub extra_at : Map → State → ℕ → ℕ

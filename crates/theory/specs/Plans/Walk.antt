@@ -1,5 +1,5 @@
 -- Walks: steps that pass one after the other. Their moves are legal and draw them, and they are what is read from a plan's bytes.
-use Rattle.std.specs.Prelude.{◌≡◌, ℕ, zero, suc, ◌+◌, ◌≤◌, length, drop}
+use Rattle.std.specs.Prelude.{◌≡◌, ℕ, zero, suc, ◌+◌, length, drop}
 use Rattle.std.proofs.Math.Path.{refl, ap}
 use Rattle.std.proofs.Common.{sym, ap₂, ◌∙◌, add-zero, arith, length-append}
 use mathlib.Core.List.{List, [], ◌∷◌, ◌++◌, append_assoc}
@@ -9,11 +9,8 @@ use Rattle.spec.specs.Arrangement.{Move}
 use Rattle.spec.specs.State.{State, moved_all, Step, drawn_steps, step_bytes}
 use Rattle.spec.specs.Run.{Ran, step_at, steps_from}
 use Rattle.theory.specs.Basics.Outcomes.{ok_injective, bound, bind}
-use Rattle.theory.specs.Maps.Layout.{Accepted}
-use Rattle.theory.specs.Maps.Moves.{Legals, stay, moved_append, legals_append, drawn_append}
-use Rattle.theory.specs.Maps.Consistent.{Consistent, consistent_all}
+use Rattle.theory.specs.Maps.Moves.{Legals, moved_append}
 use Rattle.theory.specs.Plans.Taken.{Taken, TakenAt, taken_at, takes_at, ran_of, moves_of, step_with}
-use Rattle.theory.specs.Plans.Step.{made}
 
 -- the steps ss pass one after the other from s, and their moves are xs
 pub data Walk (m : Map) (k : ℕ) : State → List Step → List Move → Type 0 where
@@ -25,17 +22,6 @@ pub data Walk (m : Map) (k : ℕ) : State → List Step → List Move → Type 0
 pub record Walked (m : Map) (s : State) (ss : List Step) (xs : List Move) : Type 0 where
   pub legals : Legals m s xs
   pub drawn : drawn_steps m s xs ≡ ss
-
--- the moves of a walk are so
-pub walked : (m : Map) (g : Accepted m) (k : ℕ) (few : k ≤ 64) {s : State} {ss : List Step} {xs : List Move} → Consistent m k s → Walk m k s ss xs → Walked m s ss xs
-walked m g k few h halt = record { legals = stay; drawn = unfold drawn_steps in refl }
-walked m g k few h (walk {s} {r} {u} {v} {behind} {list} {ss} {xs} t w) =
-    let d = made m g k few s h r u v behind list t in
-    let i = walked m g k few (consistent_all m g k h d.legals) w in
-    record {
-      legals = legals_append xs d.legals i.legals;
-      drawn = drawn_append m s (moves_of m s r u v behind list) xs ∙ ap₂ {C = List Step} (λ a b. a ++ b) d.drawn i.drawn;
-    }
 
 -- ---- steps as bytes
 
@@ -91,7 +77,6 @@ walk_read m k (halt {s}) p i o rest e = ended s
   where
     ended : (q : State) → steps_from m k p 0 i o q ≡ ok (walk_ran q o [] [])
     ended q = unfold steps_from step_bytes moved_all in ap (λ n. ok (record { state = q; moves = []; next = n })) (sym (add-zero o))
-
 walk_read m k (walk {s} {r} {u} {v} {behind} {list} {ss} {xs} t w) p i o rest e = further (walk_read m k w p (i + 1) (o + 4 + length list) rest one.1)
   where
     ms : List Move

@@ -1,22 +1,20 @@
 -- Move lists as files: what drawing and rounds accept is a legal list to the goals, and every such list that fits is accepted.
-use Rattle.std.specs.Prelude.{[], ◌∷◌, ◌≡◌, List, ℕ, ◌*◌, ◌≤◌, length}
+use Rattle.std.specs.Prelude.{[], ◌∷◌, ◌≡◌, List, ℕ}
 use Rattle.std.proofs.Math.Path.{refl}
-use Rattle.std.proofs.Common.{sym, ap, ◌∙◌, arith}
+use Rattle.std.proofs.Common.{sym, ap, ◌∙◌}
 use Rattle.spec.specs.Outcome.{Outcome, ok, refuse, ◌>>=◌}
 use Rattle.spec.specs.Wire.{file_of, payload_of}
 use Rattle.spec.specs.Arrangement.{Move}
-use Rattle.spec.specs.State.{drawn_steps, plan_payload, moves_payload, rounds_payload}
+use Rattle.spec.specs.State.{drawn_steps, plan_payload, rounds_payload}
 use Rattle.spec.specs.Run.{checked_moves}
 use Rattle.spec.specs.Services.{Instance, instance_of, fits, answer_of, drawing, rounds}
-use Rattle.spec.specs.Terms.{Bytes, Within, Reaches, start, move_file, map_numbers, list_numbers, OneList}
-use Rattle.theory.specs.Basics.Outcomes.{ok_injective, bound, bind}
-use Rattle.theory.specs.Codec.{read_file, written_file, written_bytes}
-use Rattle.theory.specs.Maps.Moves.{are_legal, legal_all_lem}
+use Rattle.spec.specs.Terms.{Bytes, Within, Reaches, start, move_file, map_numbers, list_numbers}
+use Rattle.theory.specs.Basics.Outcomes.{ok_injective, bound}
+use Rattle.theory.specs.Codec.{written_file, written_bytes}
+use Rattle.theory.specs.Maps.Moves.{legal_all_lem}
 use Rattle.theory.specs.Maps.Instance.{instance_accepted}
-use Rattle.theory.specs.Plans.Resolve.{start_tracks}
-use Rattle.theory.specs.Plans.MoveList.{checked_complete, checked_sound, moves_length, payload_moves}
+use Rattle.theory.specs.Plans.MoveList.{checked_sound}
 use Rattle.theory.specs.Services.Refusals.{Numbered, numbered_bind, numbered_left, numbered_instance, numbered_list, numbered_checked}
-use Rattle.theory.specs.Services.Answers.{payload_within}
 
 module _ {A B C : Type 0} where
   -- a chain in two parts
@@ -93,25 +91,3 @@ replay_sound a b c w h e =
     let f = written_file 40 4 128 c p.0 h p.1 in
     let k = checked_sound i.0.graph s.accepted i.0.placing s.placed p.0 m.0 (written_bytes 40 4 128 c p.0 h p.1) m.1 in
     rw (← ok_injective m.2) (record { instance = i.1; reaches = (legal_all_lem k.legals, k.reached); file = f.0 ∙ ap (file_of 4) (sym k.payload); size = f.3 })
-
--- a list's file that fits is read back
-pub read_moves : (xs : List Move) → Within 128 (move_file xs) → payload_of 40 4 128 (move_file xs) ≡ ok (moves_payload xs)
-read_moves xs h =
-    let one : 1 ≤ length (moves_payload xs) = omega (arith, moves_length xs) in
-    read_file 40 4 128 (moves_payload xs) one (payload_within 4 128 (moves_payload xs) h) (omega arith)
-
--- and every legal list to the goals that fits is accepted
-pub replay_complete : (a b : List ℕ) (it : Instance) (xs : List Move) → instance_of a b ≡ ok it → Reaches it xs → Within 128 (move_file xs)
-    → replay a b (move_file xs) ≡ ok (record { it = it; moves = xs })
-unfolding replay
-replay_complete a b it xs i r h =
-    let s = instance_accepted a b it i in
-    let l : length (moves_payload xs) ≤ 504 * 128 = payload_within 4 128 (moves_payload xs) h in
-    let k = checked_complete it.graph s.accepted it.placing xs (start_tracks it.graph s.accepted it.placing s.placed).consistent
-    (are_legal it.graph (start it) xs r.0) r.1 (omega (arith, moves_length xs)) in
-    bind _ _ _ i ∙ bind _ _ _ (read_moves xs h) ∙ bind _ _ _ k
-
--- one file is one list
-pub one_list : OneList
-unfolding OneList
-one_list xs ys h k e = payload_moves xs ys (ok_injective (sym (read_moves xs h) ∙ ap (payload_of 40 4 128) e ∙ read_moves ys k))

@@ -1,14 +1,12 @@
 -- Two yards, as files, for which the services compute.
-use Rattle.std.specs.Prelude.{◌≡◌, refl, Bool, true, false, List, [], ◌∷◌, ◌++◌, ℕ, zero, suc, ◌-◌, ◌<◌, length, get_or, take, replicate, T, ltb}
-use Rattle.std.proofs.Common.{sym, ap, ◌∙◌, take_at, ltb→lt, lit<}
+use Rattle.std.specs.Prelude.{◌≡◌, refl, Bool, true, false, List, [], ◌∷◌, ℕ, zero, suc, ◌<◌, get_or, T, ltb}
+use Rattle.std.proofs.Common.{sym, ◌∙◌, ltb→lt, lit<}
 use Rattle.spec.specs.Outcome.{ok, ◌>>=◌, ◌>>◌, check, ◌&&◌, ◌||◌, all}
 use Rattle.spec.specs.Wire.{file_of}
-use Rattle.spec.specs.Arrangement.{Move}
-use Rattle.spec.specs.Services.{Answer, Instance, instance_of, judging}
-use Rattle.spec.specs.Terms.{Bytes, Within, writes, move_file, OneList}
+use Rattle.spec.specs.Services.{Instance, instance_of, judging}
+use Rattle.spec.specs.Terms.{Bytes}
 use Rattle.theory.specs.Basics.Tests.{of_true}
 use Rattle.theory.specs.Basics.Outcomes.{ok_injective}
-use Rattle.theory.specs.Services.Replayed.{one_list}
 
 -- bytes that pass the test are bytes
 pub all_bytes : (c : List ℕ) → T (all (λ x. ltb x 256) c) → Bytes c
@@ -97,11 +95,3 @@ read_b = refl
 -- it is the only instance that these files give
 pub only_b : (it : Instance) → instance_of map_b placing_b ≡ ok it → it_b ≡ it
 only_b it e = ok_injective (sym read_b ∙ e)
-
--- two answers that are the same file are the same list
-pub same_list_lem : (room : ℕ) (xs ys : List Move) → Within 128 (move_file xs) → Within 128 (move_file ys) → writes room (move_file xs) ≡ writes room (move_file ys) → xs ≡ ys
-unfolding OneList
-same_list_lem room xs ys h k e = one_list xs ys h k (file xs ∙ ap (λ (x : Answer). take x.value x.buffer) e ∙ sym (file ys))
-  where
-    file : (zs : List Move) → move_file zs ≡ take (length (move_file zs)) (move_file zs ++ replicate (room - length (move_file zs)) 0)
-    file zs = sym (take_at (move_file zs) (replicate (room - length (move_file zs)) 0) (length (move_file zs)) refl)

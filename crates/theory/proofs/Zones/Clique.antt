@@ -1,0 +1,4 @@
+-- Cliques: any two places are joined.
+pub mod Rule
+pub mod Entering
+pub mod Ending
