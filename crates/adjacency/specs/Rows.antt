@@ -9,7 +9,7 @@ use Rattle.std.proofs.Math.Dec.{eqb}
 use Rattle.std.specs.Int.Bits.{bit_or}
 use borrow.Author.Tests.{eq-eqb, eqb-true, eqb-false, ltb-true, ltb-false, lt-ltb, le-ltb}
 use Rattle.std.proofs.Math.Nat.{zero-div}
-use Rattle.spec.specs.Outcome.{◌&&◌, ◌||◌}
+use Rattle.spec.specs.Outcome.{◌and◌, ◌or◌}
 use Rattle.spec.specs.Layout.{Edge, has_edge, joined}
 use Rattle.adjacency.specs.Bit.{bit_of, set_same, set_other}
 
@@ -19,7 +19,7 @@ bit_in rows a b = eqb (bit_of (get_or (get_or rows a []) (b / 64) 0) (b % 64)) 1
 
 -- is there an edge between u and v; a vertex that is not below 128 has none
 unfoldable pub bit_at : List (List ℕ) → ℕ → ℕ → Bool
-bit_at rows u v = elim (ltb u 128 && ltb v 128) [ true ↦ bit_in rows u v | false ↦ false ]
+bit_at rows u v = elim (ltb u 128 and ltb v 128) [ true ↦ bit_in rows u v | false ↦ false ]
 
 -- the rows with that bit set
 abbrev pub put_bit : List (List ℕ) → ℕ → ℕ → List (List ℕ)
@@ -31,7 +31,7 @@ blank = replicate 128 (0 ∷ 0 ∷ [])
 
 -- the rows with the edge between a and b
 unfoldable pub join : List (List ℕ) → ℕ → ℕ → List (List ℕ)
-join rows a b = elim (ltb a 128 && ltb b 128) [ true ↦ put_bit (put_bit rows a b) b a | false ↦ rows ]
+join rows a b = elim (ltb a 128 and ltb b 128) [ true ↦ put_bit (put_bit rows a b) b a | false ↦ rows ]
 
 -- the rows with these edges more
 unfoldable pub join_all : List (List ℕ) → List Edge → List (List ℕ)
@@ -103,11 +103,11 @@ module _ (rows : List (List ℕ)) (q : Square rows) (a b : ℕ) (la : a < 128) (
           (get_or-set_other (get_or rows a []) (b / 64) (v / 64) (bit_or (get_or (get_or rows a []) (b / 64) 0) (2 ^ (b % 64))) 0 (eqb-false _ _ e))
 
   -- a bit of the new rows is this one, or was there
-  put_bit_lem : (u v : ℕ) → bit_in (put_bit rows a b) u v ≡ ((eqb u a && eqb v b) || bit_in rows u v)
-  unfolding ◌&&◌ ◌||◌
+  put_bit_lem : (u v : ℕ) → bit_in (put_bit rows a b) u v ≡ ((eqb u a and eqb v b) or bit_in rows u v)
+  unfolding ◌and◌ ◌or◌
   put_bit_lem u v = go (eqb u a) (eqb v b) refl refl
     where
-      go : (s t : Bool) → eqb u a ≡ s → eqb v b ≡ t → bit_in (put_bit rows a b) u v ≡ ((s && t) || bit_in rows u v)
+      go : (s t : Bool) → eqb u a ≡ s → eqb v b ≡ t → bit_in (put_bit rows a b) u v ≡ ((s and t) or bit_in rows u v)
       go true true d e = ap₂ (bit_in (put_bit rows a b)) (eqb-true u a d) (eqb-true v b e) ∙ put_same
       go true false d e =
           let w = eqb-true u a d in
@@ -116,20 +116,20 @@ module _ (rows : List (List ℕ)) (q : Square rows) (a b : ℕ) (la : a < 128) (
 
 -- ---- tests
 
-or_false : (b : Bool) → ◌≡◌ {A = Bool} (elim b [ true ↦ true | false ↦ false ]) (b || false)
-unfolding ◌||◌
+or_false : (b : Bool) → ◌≡◌ {A = Bool} (elim b [ true ↦ true | false ↦ false ]) (b or false)
+unfolding ◌or◌
 or_false true = refl
 or_false false = refl
 
-or_swap : (a b c : Bool) → ◌≡◌ {A = Bool} (elim a [ true ↦ true | false ↦ b || c ]) (b || elim a [ true ↦ true | false ↦ c ])
-unfolding ◌||◌
+or_swap : (a b c : Bool) → ◌≡◌ {A = Bool} (elim a [ true ↦ true | false ↦ b or c ]) (b or elim a [ true ↦ true | false ↦ c ])
+unfolding ◌or◌
 or_swap true true c = refl
 or_swap true false c = refl
 or_swap false true c = refl
 or_swap false false c = refl
 
-or_assoc : (a b c : Bool) → (a || (b || c)) ≡ ((a || b) || c)
-unfolding ◌||◌
+or_assoc : (a b c : Bool) → (a or (b or c)) ≡ ((a or b) or c)
+unfolding ◌or◌
 or_assoc true b c = refl
 or_assoc false b c = refl
 
@@ -140,26 +140,26 @@ same_test true false f g = sym (f refl)
 same_test false true f g = g refl
 same_test false false f g = refl
 
-pub and_true : (a b : Bool) → (a && b) ≡ true → (a ≡ true) × (b ≡ true)
-unfolding ◌&&◌
+pub and_true : (a b : Bool) → (a and b) ≡ true → (a ≡ true) × (b ≡ true)
+unfolding ◌and◌
 and_true true b e = (refl, e)
 and_true false b e = (e, let z : b ≡ true = cc in z)
 
-pub or_true : (a b : Bool) → (a || b) ≡ true → (a ≡ true) ⊎ (b ≡ true)
-unfolding ◌||◌
+pub or_true : (a b : Bool) → (a or b) ≡ true → (a ≡ true) ⊎ (b ≡ true)
+unfolding ◌or◌
 or_true true b e = inl refl
 or_true false b e = inr e
 
-pub both : {a b : Bool} → a ≡ true → b ≡ true → (a && b) ≡ true
-unfolding ◌&&◌
+pub both : {a b : Bool} → a ≡ true → b ≡ true → (a and b) ≡ true
+unfolding ◌and◌
 both {a} {b} d e = rw (d, e)
 
-pub or_left : (a b : Bool) → a ≡ true → (a || b) ≡ true
-unfolding ◌||◌
+pub or_left : (a b : Bool) → a ≡ true → (a or b) ≡ true
+unfolding ◌or◌
 or_left a b e = rw e
 
-pub or_right : (a b : Bool) → b ≡ true → (a || b) ≡ true
-unfolding ◌||◌
+pub or_right : (a b : Bool) → b ≡ true → (a or b) ≡ true
+unfolding ◌or◌
 or_right true b e = refl
 or_right false b e = e
 
@@ -173,27 +173,27 @@ lt_or_ge a b = go (ltb a b) refl
 -- ---- one edge more
 
 -- a pair in the list with one edge more
-has_snoc : (es : List Edge) (e : Edge) (x y : ℕ) → has_edge (es ++ (e ∷ [])) x y ≡ ((eqb e.a x && eqb e.b y) || has_edge es x y)
+has_snoc : (es : List Edge) (e : Edge) (x y : ℕ) → has_edge (es ++ (e ∷ [])) x y ≡ ((eqb e.a x and eqb e.b y) or has_edge es x y)
 unfolding has_edge
-has_snoc [] e x y = one (eqb e.a x && eqb e.b y)
+has_snoc [] e x y = one (eqb e.a x and eqb e.b y)
   where
-    one : (b : Bool) → ◌≡◌ {A = Bool} (elim b [ true ↦ true | false ↦ false ]) (b || false)
+    one : (b : Bool) → ◌≡◌ {A = Bool} (elim b [ true ↦ true | false ↦ false ]) (b or false)
     one b = or_false b
-has_snoc (d ∷ es) e x y = ap (λ (r : Bool). elim (eqb d.a x && eqb d.b y) [ true ↦ true | false ↦ r ]) (has_snoc es e x y)
-    ∙ or_swap (eqb d.a x && eqb d.b y) (eqb e.a x && eqb e.b y) (has_edge es x y)
+has_snoc (d ∷ es) e x y = ap (λ (r : Bool). elim (eqb d.a x and eqb d.b y) [ true ↦ true | false ↦ r ]) (has_snoc es e x y)
+    ∙ or_swap (eqb d.a x and eqb d.b y) (eqb e.a x and eqb e.b y) (has_edge es x y)
 
 -- an edge joins its two ends, either way round
-min_max : (a b u v : ℕ) → a < b → (eqb a (min u v) && eqb b (max u v)) ≡ ((eqb u b && eqb v a) || (eqb u a && eqb v b))
-min_max a b u v h = same_test (eqb a (min u v) && eqb b (max u v)) ((eqb u b && eqb v a) || (eqb u a && eqb v b)) (λ e. one (and_true _ _ e)) (λ e. two (or_true _ _ e))
+min_max : (a b u v : ℕ) → a < b → (eqb a (min u v) and eqb b (max u v)) ≡ ((eqb u b and eqb v a) or (eqb u a and eqb v b))
+min_max a b u v h = same_test (eqb a (min u v) and eqb b (max u v)) ((eqb u b and eqb v a) or (eqb u a and eqb v b)) (λ e. one (and_true _ _ e)) (λ e. two (or_true _ _ e))
   where
-    one : (eqb a (min u v) ≡ true) × (eqb b (max u v) ≡ true) → ((eqb u b && eqb v a) || (eqb u a && eqb v b)) ≡ true
+    one : (eqb a (min u v) ≡ true) × (eqb b (max u v) ≡ true) → ((eqb u b and eqb v a) or (eqb u a and eqb v b)) ≡ true
     one w = pick (eqb-true a (min u v) w.0) (eqb-true b (max u v) w.1) (lt_or_ge u v)
       where
-        pick : a ≡ min u v → b ≡ max u v → (u < v) ⊎ (v ≤ u) → ((eqb u b && eqb v a) || (eqb u a && eqb v b)) ≡ true
-        pick d e (inl l) = or_right (eqb u b && eqb v a) (eqb u a && eqb v b) (both (eq-eqb u a (omega arith)) (eq-eqb v b (omega arith)))
-        pick d e (inr l) = or_left (eqb u b && eqb v a) (eqb u a && eqb v b) (both (eq-eqb u b (omega arith)) (eq-eqb v a (omega arith)))
+        pick : a ≡ min u v → b ≡ max u v → (u < v) ⊎ (v ≤ u) → ((eqb u b and eqb v a) or (eqb u a and eqb v b)) ≡ true
+        pick d e (inl l) = or_right (eqb u b and eqb v a) (eqb u a and eqb v b) (both (eq-eqb u a (omega arith)) (eq-eqb v b (omega arith)))
+        pick d e (inr l) = or_left (eqb u b and eqb v a) (eqb u a and eqb v b) (both (eq-eqb u b (omega arith)) (eq-eqb v a (omega arith)))
 
-    two : ((eqb u b && eqb v a) ≡ true) ⊎ ((eqb u a && eqb v b) ≡ true) → (eqb a (min u v) && eqb b (max u v)) ≡ true
+    two : ((eqb u b and eqb v a) ≡ true) ⊎ ((eqb u a and eqb v b) ≡ true) → (eqb a (min u v) and eqb b (max u v)) ≡ true
     two (inl e) =
         let w = and_true (eqb u b) (eqb v a) e in
         let d = eqb-true u b w.0 in
@@ -206,7 +206,7 @@ min_max a b u v h = same_test (eqb a (min u v) && eqb b (max u v)) ((eqb u b && 
         both (eq-eqb a (min u v) (omega arith)) (eq-eqb b (max u v) (omega arith))
 
 pub join_is : (rows : List (List ℕ)) (a b : ℕ) → a < 128 → b < 128 → join rows a b ≡ put_bit (put_bit rows a b) b a
-unfolding join ◌&&◌
+unfolding join ◌and◌
 join_is rows a b la lb = rw (join, lt-ltb a 128 la, lt-ltb b 128 lb)
 
 -- rows that show some edges, with an edge joined, show it too
@@ -219,9 +219,9 @@ shows_more rows es e s h = rw (join_is rows e.a e.b (omega arith) h.1) (record {
     bits· : (u v : ℕ) → bit_in (put_bit (put_bit rows e.a e.b) e.b e.a) u v ≡ has_edge (es ++ (e ∷ [])) (min u v) (max u v)
     bits· u v =
         put_bit_lem (put_bit rows e.a e.b) first e.b e.a h.1 (omega arith) u v
-        ∙ ap (λ (r : Bool). (eqb u e.b && eqb v e.a) || r) (put_bit_lem rows s.square e.a e.b (omega arith) h.1 u v ∙ ap (λ (r : Bool). (eqb u e.a && eqb v e.b) || r) (s.bits u v))
-        ∙ or_assoc (eqb u e.b && eqb v e.a) (eqb u e.a && eqb v e.b) (has_edge es (min u v) (max u v))
-        ∙ ap (λ (r : Bool). r || has_edge es (min u v) (max u v)) (sym (min_max e.a e.b u v h.0))
+        ∙ ap (λ (r : Bool). (eqb u e.b and eqb v e.a) or r) (put_bit_lem rows s.square e.a e.b (omega arith) h.1 u v ∙ ap (λ (r : Bool). (eqb u e.a and eqb v e.b) or r) (s.bits u v))
+        ∙ or_assoc (eqb u e.b and eqb v e.a) (eqb u e.a and eqb v e.b) (has_edge es (min u v) (max u v))
+        ∙ ap (λ (r : Bool). r or has_edge es (min u v) (max u v)) (sym (min_max e.a e.b u v h.0))
         ∙ sym (has_snoc es e (min u v) (max u v))
 
 -- the rows of a list with one edge more
@@ -255,16 +255,16 @@ shows_none = record {
 
 -- a vertex that is not below 128 has no edge
 pub bit_out : (rows : List (List ℕ)) (u v : ℕ) → 128 ≤ u → false ≡ bit_at rows u v
-unfolding bit_at ◌&&◌
+unfolding bit_at ◌and◌
 bit_out rows u v h = rw (bit_at, le-ltb u 128 h)
 
 pub bit_out_2 : (rows : List (List ℕ)) (u v : ℕ) → u < 128 → 128 ≤ v → false ≡ bit_at rows u v
-unfolding bit_at ◌&&◌
+unfolding bit_at ◌and◌
 bit_out_2 rows u v h l = rw (bit_at, lt-ltb u 128 h, le-ltb v 128 l)
 
 -- the others have the edges of their rows
 pub bit_in_lem : (rows : List (List ℕ)) (u v : ℕ) → u < 128 → v < 128 → bit_in rows u v ≡ bit_at rows u v
-unfolding bit_at ◌&&◌
+unfolding bit_at ◌and◌
 bit_in_lem rows u v h l = rw (bit_at, lt-ltb u 128 h, lt-ltb v 128 l)
 
 -- a row that is not there has no bit, and no row has a third word
@@ -285,9 +285,9 @@ shows_joined rows es s u v = go (lt_or_ge u 128) (lt_or_ge v 128)
 
 -- joining a vertex that is not below 128 changes nothing
 pub join_out : (rows : List (List ℕ)) (a b : ℕ) → 128 ≤ a → rows ≡ join rows a b
-unfolding join ◌&&◌
+unfolding join ◌and◌
 join_out rows a b h = rw (join, le-ltb a 128 h)
 
 pub join_out_2 : (rows : List (List ℕ)) (a b : ℕ) → a < 128 → 128 ≤ b → rows ≡ join rows a b
-unfolding join ◌&&◌
+unfolding join ◌and◌
 join_out_2 rows a b h l = rw (join, lt-ltb a 128 h, le-ltb b 128 l)

@@ -3,7 +3,7 @@ use Rattle.std.specs.Prelude.{ℕ, zero, suc, ◌+◌, ◌-◌, ◌*◌, ◌≤�
 use Rattle.std.proofs.Common.{ap, sym, ◌∙◌, drop-cons, drop-drop, take-take, get_or-drop, get_or-take, leb-true, eqb-true, ne_eqb, add-one, arith}
 use Rattle.std.specs.Int.Bits.{bit_or, or_zero_l, or_add_and}
 use Rattle.std.proofs.lemmas.Nat.{and_le_r}
-use Rattle.spec.specs.Outcome.{all, ◌&&◌}
+use Rattle.spec.specs.Outcome.{all, ◌and◌}
 use Rattle.spec.specs.Wire.{checksum, word, head_ok, filled, fill_ok}
 use Rattle.checksum.specs.Sum.{front_not}
 use Rattle.wire.specs.Payload.{drop_take}
@@ -26,27 +26,27 @@ range_cons f o e h l =
     rw (add-one o, s, drop-cons f o 0 h1)
 
 -- no bit is set at the start
-pub zeros_first : (b : Bool) → (eqb 0 0 && b) ≡ b
-unfolding ◌&&◌
+pub zeros_first : (b : Bool) → (eqb 0 0 and b) ≡ b
+unfolding ◌and◌
 zeros_first b = refl
 
 -- the bits of one byte more: none is set before, and the rest is zeros
 pub zeros_more : (f : List ℕ) (o e any : ℕ) → o < e → e ≤ length f
-    → (eqb any 0 && all (λ x. eqb x 0) (take (e - o) (drop o f))) ≡ (eqb (bit_or any (get_or f o 0)) 0 && all (λ x. eqb x 0) (take (e - (o + 1)) (drop (o + 1) f)))
-unfolding all ◌&&◌
+    → (eqb any 0 and all (λ x. eqb x 0) (take (e - o) (drop o f))) ≡ (eqb (bit_or any (get_or f o 0)) 0 and all (λ x. eqb x 0) (take (e - (o + 1)) (drop (o + 1) f)))
+unfolding all ◌and◌
 zeros_more f o e any h l = rw (range_cons f o e h l) (go any (get_or f o 0) (take (e - (o + 1)) (drop (o + 1) f)))
   where
-    go : (a b : ℕ) (rest : List ℕ) → (eqb a 0 && all (λ x. eqb x 0) (b ∷ rest)) ≡ (eqb (bit_or a b) 0 && all (λ x. eqb x 0) rest)
+    go : (a b : ℕ) (rest : List ℕ) → (eqb a 0 and all (λ x. eqb x 0) (b ∷ rest)) ≡ (eqb (bit_or a b) 0 and all (λ x. eqb x 0) rest)
     go zero zero rest = rw (or_zero_l 0)
     go zero (suc b) rest = front_not (suc b) rest (λ z. omega (arith, z)) ∙ rw (or_zero_l (suc b), ne_eqb (suc b) 0 (λ z. omega (arith, z)))
     go (suc a) b rest = rw (ne_eqb (suc a) 0 (λ z. omega (arith, z)), ne_eqb (bit_or (suc a) b) 0 (λ z. omega (arith, z, or_add_and (suc a) b, and_le_r (suc a) b)))
 
 -- nothing is left to test
-pub zeros_none : (f : List ℕ) (o e any : ℕ) → e ≤ o → (eqb any 0 && all (λ x. eqb x 0) (take (e - o) (drop o f))) ≡ eqb any 0
-unfolding all ◌&&◌
+pub zeros_none : (f : List ℕ) (o e any : ℕ) → e ≤ o → (eqb any 0 and all (λ x. eqb x 0) (take (e - o) (drop o f))) ≡ eqb any 0
+unfolding all ◌and◌
 zeros_none f o e any h = let z : e - o ≡ 0 = omega arith in rw z (go (eqb any 0))
   where
-    go : (b : Bool) → (b && true) ≡ b
+    go : (b : Bool) → (b and true) ≡ b
     go true = refl
     go false = refl
 
@@ -88,7 +88,7 @@ sum_is f at = rw (block_word f at 510 (omega arith), block_body f at)
 
 -- bytes 0-3
 pub head_is : (f : List ℕ) (at kind i : ℕ)
-    → head_ok kind i (block_at f at) ≡ (eqb (get_or f at 0) kind && eqb (get_or f (at + 1) 0) 0 && eqb (word f (at + 2)) i)
+    → head_ok kind i (block_at f at) ≡ (eqb (get_or f at 0) kind and eqb (get_or f (at + 1) 0) 0 and eqb (word f (at + 2)) i)
 unfolding head_ok
 head_is f at kind i =
     let e : at + 0 ≡ at = omega arith in
@@ -96,22 +96,22 @@ head_is f at kind i =
 
 -- fill and padding
 pub fill_is : (f : List ℕ) (at : ℕ) (last : Bool)
-    → fill_ok last (block_at f at) ≡ (filled last (word f (at + 4)) && all (λ x. eqb x 0) (drop (word f (at + 4)) (take 504 (drop 6 (block_at f at)))))
+    → fill_ok last (block_at f at) ≡ (filled last (word f (at + 4)) and all (λ x. eqb x 0) (drop (word f (at + 4)) (take 504 (drop 6 (block_at f at)))))
 unfolding fill_ok filled
 fill_is f at last =
-    ap (λ (n : ℕ). filled last n && all (λ x. eqb x 0) (drop n (take 504 (drop 6 (block_at f at))))) (block_word f at 4 (omega arith))
+    ap (λ (n : ℕ). filled last n and all (λ x. eqb x 0) (drop n (take 504 (drop 6 (block_at f at))))) (block_word f at 4 (omega arith))
 
 -- ---- what a fill that passes tells
 
 -- the first of two tests that both hold
-and_left : (a b : Bool) → (a && b) ≡ true → a ≡ true
-unfolding ◌&&◌
+and_left : (a b : Bool) → (a and b) ≡ true → a ≡ true
+unfolding ◌and◌
 and_left true b e = refl
 and_left false b e = e
 
 -- and the second
-and_right : (a b : Bool) → (a && b) ≡ true → b ≡ true
-unfolding ◌&&◌
+and_right : (a b : Bool) → (a and b) ≡ true → b ≡ true
+unfolding ◌and◌
 and_right true b e = e
 and_right false b e = let z : b ≡ true = cc in z
 

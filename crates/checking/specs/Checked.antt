@@ -5,7 +5,7 @@ use Rattle.std.proofs.Common.{ap, subst, ◌∙◌, drop-drop, take-take, take-a
 use Rattle.std.proofs.Math.Path.{sym}
 use borrow.Author.Tests.{eqb-true, eqb-false, eq-eqb, ne_eqb, le-leb, lt-leb}
 use native.Mathlib.Omega.{arith}
-use Rattle.spec.specs.Outcome.{Outcome, ok, refuse, ◌>>◌, check, ◌&&◌}
+use Rattle.spec.specs.Outcome.{Outcome, ok, refuse, ◌>>◌, check, ◌and◌}
 use Rattle.spec.specs.Wire.{word, head_ok, filled, fill_ok, payload_from, payload_of}
 use Rattle.checking.specs.Block.{block_at, sum_ok, block_word, block_part, fill_filled, filled_le, filled_some, filled_full}
 use Rattle.wire.specs.Payload.{payload, chunk}
@@ -89,23 +89,23 @@ module _ (base kind i n : ℕ) (rest done : List ℕ) (more : i < n) where
 module _ (f : List ℕ) (base kind limit : ℕ) where
   -- not whole blocks
   pub size_odd : (length f % 512 ≡ 0 → ⊥) → refuse (base + 1) 0 ≡ payload_of base kind limit f
-  unfolding payload_of check ◌>>◌ ◌&&◌
+  unfolding payload_of check ◌>>◌ ◌and◌
   size_odd h = simp (payload_of, ne_eqb _ _ h)
 
   -- length 0
   pub size_none : length f % 512 ≡ 0 → length f / 512 < 1 → refuse (base + 1) 0 ≡ payload_of base kind limit f
-  unfolding payload_of check ◌>>◌ ◌&&◌
+  unfolding payload_of check ◌>>◌ ◌and◌
   size_none h g = simp (payload_of, eq-eqb _ _ h, lt-leb _ _ g)
 
   -- over the limit
   pub size_over : length f % 512 ≡ 0 → 1 ≤ length f / 512 → limit < length f / 512 → refuse (base + 1) 0 ≡ payload_of base kind limit f
-  unfolding payload_of check ◌>>◌ ◌&&◌
+  unfolding payload_of check ◌>>◌ ◌and◌
   size_over h g l = simp (payload_of, eq-eqb _ _ h, le-leb _ _ g, lt-leb _ _ l)
 
   -- a size that passes
   pub size_fits : length f % 512 ≡ 0 → 1 ≤ length f / 512 → length f / 512 ≤ limit
       → payload_of base kind limit f ≡ payload_from base kind 0 (length f / 512) f []
-  unfolding payload_of check ◌>>◌ ◌&&◌
+  unfolding payload_of check ◌>>◌ ◌and◌
   size_fits h g l = simp (payload_of, eq-eqb _ _ h, le-leb _ _ g, le-leb _ _ l)
 
 -- ---- the blocks of a file, one after the other

@@ -5,7 +5,7 @@ use Rattle.std.proofs.Math.Path.{sym}
 use Rattle.std.proofs.Math.Decide.{dec_lt, ℕ_discrete}
 use Rattle.std.proofs.lemmas.List.{length-map}
 use Rattle.std.proofs.Math.ListN.{get_or-eq_default}
-use Rattle.spec.specs.Outcome.{◌&&◌, same_list}
+use Rattle.spec.specs.Outcome.{◌and◌, same_list}
 use Rattle.spec.specs.Arrangement.{Arrangement, cell, order, last_free}
 use Rattle.spec.specs.Clique.{named, same_robots, open_target, lowest_off, make_room, clique_to, clique_can_enter, clique_enter}
 use Rattle.spec.specs.State.{State, robot_on, cell_of, arrangement_of, across}
@@ -119,28 +119,28 @@ named_nobody s vs list j i n e t = gone ((same_robots_lem a g t).back i 255 ther
 module _ (a : Arrangement) (r j behind : ℕ) (list : List ℕ) where
   -- somebody is named behind
   pub enter_behind : behind ≢ 255 → false ≡ clique_can_enter a r j behind list
-  unfolding clique_can_enter ◌&&◌
-  enter_behind n = sym (rw (ne_eqb _ _ n, ◌&&◌))
+  unfolding clique_can_enter ◌and◌
+  enter_behind n = sym (rw (ne_eqb _ _ n, ◌and◌))
 
   -- the clique is not filled
   pub enter_free : behind ≡ 255 → false ≡ last_free a → true ≡ clique_can_enter a r j behind list
-  unfolding clique_can_enter ◌&&◌
-  enter_free e d = sym (rw (eq-eqb _ _ e, ◌&&◌, ← d))
+  unfolding clique_can_enter ◌and◌
+  enter_free e d = sym (rw (eq-eqb _ _ e, ◌and◌, ← d))
 
   -- the follow list does not name the entering robot at its place
   pub enter_unnamed : behind ≡ 255 → true ≡ last_free a → false ≡ eqb (cell (named list) j) (suc r) → false ≡ clique_can_enter a r j behind list
-  unfolding clique_can_enter ◌&&◌
-  enter_unnamed e d n = sym (rw (eq-eqb _ _ e, ◌&&◌, ← d, ← n))
+  unfolding clique_can_enter ◌and◌
+  enter_unnamed e d n = sym (rw (eq-eqb _ _ e, ◌and◌, ← d, ← n))
 
   -- it does: the others are to be those inside
   pub enter_named : behind ≡ 255 → true ≡ last_free a → true ≡ eqb (cell (named list) j) (suc r)
       → same_robots a (set (named list) j 0) ≡ clique_can_enter a r j behind list
-  unfolding clique_can_enter ◌&&◌
-  enter_named e d n = sym (rw (eq-eqb _ _ e, ◌&&◌, ← d, ← n))
+  unfolding clique_can_enter ◌and◌
+  enter_named e d n = sym (rw (eq-eqb _ _ e, ◌and◌, ← d, ← n))
 
   -- so a list that was met names robots
   pub entered : T (clique_can_enter a r j behind list) → true ≡ last_free a → T (same_robots a (set (named list) j 0))
-  unfolding clique_can_enter ◌&&◌
+  unfolding clique_can_enter ◌and◌
   entered t d =
       let u = and_right (eqb behind 255) _ t in
       and_right (eqb (cell (named list) j) (suc r)) (same_robots a (set (named list) j 0)) (rw (← d) at u)
@@ -159,7 +159,7 @@ module _ (a : Arrangement) (r j behind : ℕ) (list : List ℕ) where
 
 -- there is a follow list exactly where the clique is filled, and it has a name for each place
 pub extra_fill : (a : Arrangement) (n : ℕ) → n ≡ extra_of 3 a → 0 < n → (true ≡ last_free a) × (n ≡ length a)
-unfolding ◌&&◌
+unfolding ◌and◌
 extra_fill a n e h = pick (last_free a) e
   where
     pick : (b : Bool) → n ≡ elim b [ true ↦ length a | false ↦ 0 ] → (true ≡ b) × (n ≡ length a)
@@ -167,7 +167,7 @@ extra_fill a n e h = pick (last_free a) e
     pick false d = absurd (omega arith)
 
 pub extra_room : (a : Arrangement) (n : ℕ) → n ≡ extra_of 3 a → n ≤ 0 → false ≡ last_free a
-unfolding ◌&&◌ last_free
+unfolding ◌and◌ last_free
 extra_room a n e h = pick (last_free a) refl e
   where
     pick : (b : Bool) → last_free a ≡ b → n ≡ elim b [ true ↦ length a | false ↦ 0 ] → false ≡ b

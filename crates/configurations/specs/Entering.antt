@@ -8,7 +8,7 @@ use Rattle.std.proofs.Math.Decide.{ℕ_discrete}
 use Rattle.std.proofs.Math.ListN.{length}
 use lib.Seq.{length-take-le}
 use borrow.Author.Tests.{eq-eqb, ne_eqb, lt-ltb, le-ltb}
-use Rattle.spec.specs.Outcome.{◌&&◌, index_of}
+use Rattle.spec.specs.Outcome.{◌and◌, index_of}
 use Rattle.spec.specs.Hall.{room}
 use Rattle.spec.specs.Ring.{wrap}
 use Rattle.spec.specs.ZoneKind.{by_kind}
@@ -90,28 +90,28 @@ module _ (kind : ℕ) (i : IsHall kind) where
 module _ (l : List ℕ) (n : ℕ) (e : length l ≡ n) (behind : ℕ) where
   -- the named one is inside, or none is named
   pub hall_named : (size j t : ℕ) → t ≡ entry_in behind l → t ≤ n → room size j t (n - t) ≡ hall_enters size l j behind
-  unfolding hall_enters entry_in ◌&&◌
+  unfolding hall_enters entry_in ◌and◌
   hall_named size j t i h = at (ℕ_discrete behind 255)
     where
       same : room size j t (n - t) ≡ room size j (entry_in behind l) (length l - entry_in behind l)
       same = rw (← i, e)
 
       at : Dec (behind ≡ 255) → room size j t (n - t) ≡ hall_enters size l j behind
-      at (yes d) = same ∙ rw (eq-eqb _ _ d, hall_enters, entry_in, ◌&&◌)
+      at (yes d) = same ∙ rw (eq-eqb _ _ d, hall_enters, entry_in, ◌and◌)
       at (no d) =
           let k : index_of behind l < length l = omega (arith, rw (ne_eqb _ _ d, entry_in) at i) in
-          same ∙ rw (ne_eqb _ _ d, member_index behind l ∙ lt-ltb (index_of behind l) (length l) k, hall_enters, entry_in, ◌&&◌)
+          same ∙ rw (ne_eqb _ _ d, member_index behind l ∙ lt-ltb (index_of behind l) (length l) k, hall_enters, entry_in, ◌and◌)
 
   -- the named one is not inside
   pub hall_unnamed : (size j t : ℕ) → t ≡ entry_in behind l → n < t → hall_enters size l j behind ≡ false
-  unfolding hall_enters entry_in ◌&&◌
+  unfolding hall_enters entry_in ◌and◌
   hall_unnamed size j t i h = at (ℕ_discrete behind 255)
     where
       at : Dec (behind ≡ 255) → hall_enters size l j behind ≡ false
       at (yes d) = absurd (omega (arith, rw (eq-eqb _ _ d, entry_in) at i))
       at (no d) =
           let k : length l ≤ index_of behind l = omega (arith, rw (ne_eqb _ _ d, entry_in) at i) in
-          rw (ne_eqb _ _ d, member_index behind l ∙ le-ltb (index_of behind l) (length l) k, hall_enters, entry_in, ◌&&◌)
+          rw (ne_eqb _ _ d, member_index behind l ∙ le-ltb (index_of behind l) (length l) k, hall_enters, entry_in, ◌and◌)
 
   module _ (t : ℕ) (i : t ≡ index_of behind l) where
     -- in a ring: none is named, and it has no robot or that one
@@ -158,28 +158,28 @@ list_others list o n j e h b =
 module _ (l : List ℕ) (r j : ℕ) (list : List ℕ) where
   -- the follow list has another at place j
   pub list_other : (get_or list j 0 ≡ r → ⊥) → false ≡ list_met l r j list
-  unfolding list_met ◌&&◌
-  list_other h = sym (rw (ne_eqb _ _ h, list_met, ◌&&◌))
+  unfolding list_met ◌and◌
+  list_other h = sym (rw (ne_eqb _ _ h, list_met, ◌and◌))
 
   -- it has r there, and the others decide
   pub list_rest : (o : List ℕ) → get_or list j 0 ≡ r → o ≡ without j list → same_members l o ≡ list_met l r j list
-  unfolding list_met ◌&&◌
-  list_rest o h d = sym (rw (eq-eqb _ _ h, list_met, ◌&&◌, d))
+  unfolding list_met ◌and◌
+  list_rest o h d = sym (rw (eq-eqb _ _ h, list_met, ◌and◌, d))
 
   -- a robot is named
   pub clique_named : (n behind : ℕ) → (behind ≡ 255 → ⊥) → false ≡ clique_enters n l r j behind list
-  unfolding clique_enters ◌&&◌
-  clique_named n behind h = sym (rw (ne_eqb _ _ h, clique_enters, ◌&&◌))
+  unfolding clique_enters ◌and◌
+  clique_named n behind h = sym (rw (ne_eqb _ _ h, clique_enters, ◌and◌))
 
   -- none is, and the clique is filled
   pub clique_fills : (n behind : ℕ) → behind ≡ 255 → length l + 1 ≡ n → list_met l r j list ≡ clique_enters n l r j behind list
-  unfolding clique_enters ◌&&◌
-  clique_fills n behind h e = sym (rw (eq-eqb _ _ h, clique_enters, ◌&&◌, eq-eqb (suc (length l)) n (omega arith)))
+  unfolding clique_enters ◌and◌
+  clique_fills n behind h e = sym (rw (eq-eqb _ _ h, clique_enters, ◌and◌, eq-eqb (suc (length l)) n (omega arith)))
 
   -- none is, and it is not filled
   pub clique_free : (n behind : ℕ) → behind ≡ 255 → (length l + 1 ≡ n → ⊥) → true ≡ clique_enters n l r j behind list
-  unfolding clique_enters ◌&&◌
-  clique_free n behind h e = sym (rw (eq-eqb _ _ h, clique_enters, ◌&&◌, ne_eqb (suc (length l)) n (λ z. e (omega arith))))
+  unfolding clique_enters ◌and◌
+  clique_free n behind h e = sym (rw (eq-eqb _ _ h, clique_enters, ◌and◌, ne_eqb (suc (length l)) n (λ z. e (omega arith))))
 
 -- where a clique is not filled
 pub clique_open : (n : ℕ) (l : List ℕ) (r j behind : ℕ) (list : List ℕ) → (suc (length l) ≡ n → ⊥) → eqb behind 255 ≡ clique_enters n l r j behind list

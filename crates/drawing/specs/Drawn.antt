@@ -8,7 +8,7 @@ use mathlib.Core.List.{List, [], ◌∷◌, ◌++◌}
 use Rattle.std.proofs.Math.ListN.{length, length-append}
 use Rattle.std.proofs.Math.Seq.{set_out}
 use Rattle.std.proofs.lemmas.Bool.{lt-leb}
-use Rattle.spec.specs.Outcome.{◌&&◌, index_of}
+use Rattle.spec.specs.Outcome.{◌and◌, index_of}
 use Rattle.spec.specs.Layout.{Map, Zone, zone_of, zone_at}
 use Rattle.spec.specs.Arrangement.{Move, mv, last_free}
 use Rattle.spec.specs.ZoneKind.{behind_of}
@@ -108,7 +108,7 @@ pub record MoveDrawn (m : Map) (s : State) (x : Move) (d : Drawn) (o : List ℕ)
 abbrev step_into : State → ℕ → ℕ → ℕ → Zone → List ℕ
 step_into s r u v z =
     step_from s z.vertices (index_of v z.vertices) r u v (behind_of z.kind (arrangement_of s z.vertices) (index_of v z.vertices))
-    (eqb z.kind 3 && last_free (arrangement_of s z.vertices))
+    (eqb z.kind 3 and last_free (arrangement_of s z.vertices))
 
 step_into_lem : (m : Map) (s : State) (r u v : ℕ) → step_into s r u v (zone_at m (zone_of m v)) ≡ one_step (step_of m s (mv r u v))
 unfolding step_from step_of followed
@@ -121,11 +121,11 @@ step_alone m robots vertices x = refl
 
 -- the bytes that are laid are the step's
 step_is : (m : Map) (s : State) (r u v kind j behind : ℕ) (vs : List ℕ) (filled : Bool) → zone_at m (zone_of m v) ≡ record { kind = kind; vertices = vs }
-    → j ≡ index_of v vs → behind ≡ behind_of kind (arrangement_of s vs) j → filled ≡ (eqb kind 3 && last_free (arrangement_of s vs))
+    → j ≡ index_of v vs → behind ≡ behind_of kind (arrangement_of s vs) j → filled ≡ (eqb kind 3 and last_free (arrangement_of s vs))
     → step_from s vs j r u v behind filled ≡ one_step (step_of m s (mv r u v))
 step_is m s r u v kind j behind vs filled ez ej eb ef =
     ap₂ (λ (b : ℕ) (f : Bool). step_from s vs j r u v b f) eb ef
-    ∙ ap (λ (i : ℕ). step_from s vs i r u v (behind_of kind (arrangement_of s vs) i) (eqb kind 3 && last_free (arrangement_of s vs))) ej
+    ∙ ap (λ (i : ℕ). step_from s vs i r u v (behind_of kind (arrangement_of s vs) i) (eqb kind 3 and last_free (arrangement_of s vs))) ej
     ∙ sym (ap (step_into s r u v) ez) ∙ step_into_lem m s r u v
 
 -- the part of a listing from a to before e; nothing where the listing ends before
@@ -197,7 +197,7 @@ module _ (map : MapRead) (m : Map) (h : MapHeld map m) (g : Accepted m) (u v : �
 
       -- a move between zones, whose step is laid
       pub drawn_crossing : (s : State) (r : ℕ) (d : Drawn) (o : List ℕ) → (x ≡ y → ⊥) → (behind : ℕ) (filled : Bool) (vs : List ℕ) (bytes : ℕ) (o' : List ℕ) → vs ≡ part_of map.listed a (a + n)
-          → behind ≡ behind_of kind (arrangement_of s vs) j → filled ≡ (eqb kind 3 && last_free (arrangement_of s vs))
+          → behind ≡ behind_of kind (arrangement_of s vs) j → filled ≡ (eqb kind 3 and last_free (arrangement_of s vs))
           → bytes ≡ d.bytes + length (step_from s vs j r u v behind filled) → o' ≡ laid_all o d.bytes (step_from s vs j r u v behind filled)
           → MoveDrawn m s (mv r u v) d o (record { steps = d.steps + 1; bytes = bytes }) o'
       drawn_crossing s r d o ne behind filled vs bytes o' ev eb ef eby eo =

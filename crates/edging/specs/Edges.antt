@@ -5,7 +5,7 @@ use Rattle.std.proofs.Math.Path.{refl}
 use Rattle.std.proofs.Common.{ap, ap₂, sym, ◌∙◌, add-one}
 use borrow.Author.Tests.{lt-ltb, le-ltb, le-leb, lt-leb, eq-eqb, ne_eqb, ltb-true, ltb-false}
 use native.Mathlib.Omega.{arith}
-use Rattle.spec.specs.Outcome.{Outcome, ok, refuse, ◌>>=◌, ◌>>◌, check, ◌&&◌}
+use Rattle.spec.specs.Outcome.{Outcome, ok, refuse, ◌>>=◌, ◌>>◌, check, ◌and◌}
 use Rattle.spec.specs.Layout as layout
 use Rattle.spec.specs.Layout.{Edge, read_edges, edges_of}
 use Rattle.wire.specs.Payload.{place_of, word_at}
@@ -71,12 +71,12 @@ module _ (file : List ℕ) (m n o least : ℕ) (es : List Edge) where
   edge_half (suc todo) h g l = rw (a_byte file m 15 o g, no_byte file m 15 (o + 1) l)
 
   module _ (a b : ℕ) (is-a : a ≡ get_or file (place_of o) 0) (is_b : b ≡ get_or file (place_of (o + 1)) 0) (there : o + 1 < m) where
-    edge_bad : (todo : ℕ) → 0 < todo → (ltb a b && ltb b n && leb least (a * 256 + b)) ≡ false → read_edges n (held file m) todo o least es ≡ refuse 18 o
+    edge_bad : (todo : ℕ) → 0 < todo → (ltb a b and ltb b n and leb least (a * 256 + b)) ≡ false → read_edges n (held file m) todo o least es ≡ refuse 18 o
     unfolding read_edges ◌>>=◌ ◌>>◌ check
     edge_bad zero h e = absurd (omega arith)
     edge_bad (suc todo) h e = let g : o < m = omega arith in rw (a_byte file m 15 o g, a_byte file m 15 (o + 1) there, ← is-a, ← is_b, e)
 
-    edge_more : (todo : ℕ) → 0 < todo → (ltb a b && ltb b n && leb least (a * 256 + b)) ≡ true
+    edge_more : (todo : ℕ) → 0 < todo → (ltb a b and ltb b n and leb least (a * 256 + b)) ≡ true
         → read_edges n (held file m) todo o least es ≡ read_edges n (held file m) (todo - 1) (o + 2) (a * 256 + b + 1) (es ++ (record { a = a; b = b } ∷ []))
     unfolding read_edges ◌>>=◌ ◌>>◌ check
     edge_more zero h e = absurd (omega arith)
@@ -95,22 +95,22 @@ module _ (file : List ℕ) (m n e from : ℕ) (before rows : List (List ℕ)) (k
   edges_half h l = g.rest ∙ edge_half file m n (from + k * 2) least (edges_at file from k) (e - k) (omega arith) h l
 
   module _ (a b : ℕ) (is-a : a ≡ get_or file (place_of (from + k * 2)) 0) (is_b : b ≡ get_or file (place_of (from + k * 2 + 1)) 0) (there : from + k * 2 + 1 < m) where
-    bad : (ltb a b && ltb b n && leb least (a * 256 + b)) ≡ false → read_edges n (held file m) e from 0 [] ≡ refuse 18 (from + k * 2)
+    bad : (ltb a b and ltb b n and leb least (a * 256 + b)) ≡ false → read_edges n (held file m) e from 0 [] ≡ refuse 18 (from + k * 2)
     bad w = g.rest ∙ edge_bad file m n (from + k * 2) least (edges_at file from k) a b is-a is_b there (e - k) (omega arith) w
 
     -- the ends are not in order
     pub edges_order : b ≤ a → read_edges n (held file m) e from 0 [] ≡ refuse 18 (from + k * 2)
-    unfolding ◌&&◌
+    unfolding ◌and◌
     edges_order h = bad (rw (le-ltb a b h))
 
     -- an end is not below n
     pub edges_over : a < b → n ≤ b → read_edges n (held file m) e from 0 [] ≡ refuse 18 (from + k * 2)
-    unfolding ◌&&◌
+    unfolding ◌and◌
     edges_over h l = bad (rw (lt-ltb a b h, le-ltb b n l))
 
     -- the edge does not come after the one before
     pub edges_again : a < b → b < n → a * 256 + b < least → read_edges n (held file m) e from 0 [] ≡ refuse 18 (from + k * 2)
-    unfolding ◌&&◌
+    unfolding ◌and◌
     edges_again h l q = bad (rw (lt-ltb a b h, lt-ltb b n l, lt-leb least (a * 256 + b) q))
 
     longer : edges_at file from (k + 1) ≡ edges_at file from k ++ (record { a = a; b = b } ∷ [])
@@ -123,7 +123,7 @@ module _ (file : List ℕ) (m n e from : ℕ) (before rows : List (List ℕ)) (k
       rest = g.rest ∙ step ∙ ap (read_edges n (held file m) (e - (k + 1)) (from + (k + 1) * 2) (a * 256 + b + 1)) (sym longer);
     }
       where
-        fine : (ltb a b && ltb b n && leb least (a * 256 + b)) ≡ true
+        fine : (ltb a b and ltb b n and leb least (a * 256 + b)) ≡ true
         fine = both (lt-ltb a b h) (both (lt-ltb b n l) (le-leb least (a * 256 + b) q))
 
         a1 : e - k - 1 ≡ e - (k + 1)

@@ -8,7 +8,7 @@ use native.Mathlib.Omega.{arith}
 use Rattle.std.proofs.Math.Decide.{ℕ_discrete}
 use Rattle.std.proofs.Math.ListN.{length}
 use borrow.Author.Tests.{eq-eqb, ne_eqb, lt-ltb, le-ltb}
-use Rattle.spec.specs.Outcome.{◌&&◌, index_of}
+use Rattle.spec.specs.Outcome.{◌and◌, index_of}
 use Rattle.spec.specs.Hall.{room}
 use Rattle.spec.specs.ZoneKind.{by_kind}
 use Rattle.theory.specs.Basics.Tests.{of_true, of_false}
@@ -113,15 +113,15 @@ module _ (l : List ℕ) (n size r j t : ℕ) (e : length l ≡ n) (i : t ≡ ind
 
   -- r is not in a hall
   hall_none : n ≤ t → hall_leaves size l r j ≡ false
-  unfolding hall_leaves ◌&&◌
-  hall_none k = rw (member_index r l ∙ le-ltb (index_of r l) (length l) (omega arith), hall_leaves, ◌&&◌)
+  unfolding hall_leaves ◌and◌
+  hall_none k = rw (member_index r l ∙ le-ltb (index_of r l) (length l) (omega arith), hall_leaves, ◌and◌)
 
   -- it is, and the room decides
   hall_some : t < n → room size j t (n - t - 1) ≡ hall_leaves size l r j
-  unfolding hall_leaves ◌&&◌
+  unfolding hall_leaves ◌and◌
   hall_some k =
       let u : n - t - 1 ≡ length l - suc (index_of r l) = omega arith in
-      rw (member_index r l ∙ lt-ltb (index_of r l) (length l) (omega arith), hall_leaves, ◌&&◌, u, i)
+      rw (member_index r l ∙ lt-ltb (index_of r l) (length l) (omega arith), hall_leaves, ◌and◌, u, i)
 
 -- ---- on the first n of a part
 

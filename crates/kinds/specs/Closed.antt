@@ -5,7 +5,7 @@ use Rattle.std.proofs.Math.Bool.{true, false, not}
 use Rattle.std.proofs.Math.ListN.{length}
 use Rattle.std.proofs.Math.Dec.{eqb}
 use Rattle.std.proofs.Math.Nat.{min_comm, max_comm}
-use Rattle.spec.specs.Outcome.{◌&&◌, ◌||◌, all, member, below, index_of}
+use Rattle.spec.specs.Outcome.{◌and◌, ◌or◌, all, member, below, index_of}
 use Rattle.spec.specs.Layout.{Edge, Map, has_edge, same_bool, closed}
 use Rattle.theory.specs.Basics.Tests.{below_at, true_of, of_true}
 use Rattle.theory.specs.Basics.Lists.{index_in, in_get_d}
@@ -15,7 +15,7 @@ use Rattle.kinds.specs.Shape.{part, part_length, part_at}
 
 -- the definition's test of an edge between a and b
 abbrev edge_test : List ℕ → ℕ → ℕ → Bool
-edge_test vs a b = same_bool (member a vs) (member b vs) || eqb a (get_or vs 0 0) || eqb b (get_or vs 0 0)
+edge_test vs a b = same_bool (member a vs) (member b vs) or eqb a (get_or vs 0 0) or eqb b (get_or vs 0 0)
 
 -- a test of every edge
 abbrev every : (ℕ → ℕ → Bool) → List Edge → Bool
@@ -28,10 +28,10 @@ no {A} {b} e f = absurd (let z : ◌≡◌ {A = ℕ} (elim true as (λ _. ℕ) [
 every_has : (g : ℕ → ℕ → Bool) (es : List Edge) → every g es ≡ true → (a b : ℕ) → has_edge es a b ≡ true → g a b ≡ true
 unfolding all has_edge
 every_has g [] t a b h = no h refl
-every_has g (e ∷ es) t a b h = go (g e.a e.b) refl t (eqb e.a a && eqb e.b b) refl h (λ t. every_has g es t a b)
+every_has g (e ∷ es) t a b h = go (g e.a e.b) refl t (eqb e.a a and eqb e.b b) refl h (λ t. every_has g es t a b)
   where
     go : (c : Bool) → g e.a e.b ≡ c → ◌≡◌ {A = Bool} (elim c [ true ↦ every g es | false ↦ false ]) true
-        → (d : Bool) → (eqb e.a a && eqb e.b b) ≡ d → ◌≡◌ {A = Bool} (elim d [ true ↦ true | false ↦ has_edge es a b ]) true
+        → (d : Bool) → (eqb e.a a and eqb e.b b) ≡ d → ◌≡◌ {A = Bool} (elim d [ true ↦ true | false ↦ has_edge es a b ]) true
         → (every g es ≡ true → has_edge es a b ≡ true → g a b ≡ true) → g a b ≡ true
     go false p t d q h ih = no t refl
     go true p t true q h ih =
@@ -42,7 +42,7 @@ every_has g (e ∷ es) t a b h = go (g e.a e.b) refl t (eqb e.a a && eqb e.b b) 
 -- an edge of a list is an edge of one that begins with another
 has_more : (e : Edge) (es : List Edge) (a b : ℕ) → has_edge es a b ≡ true → has_edge (e ∷ es) a b ≡ true
 unfolding has_edge
-has_more e es a b h = go (eqb e.a a && eqb e.b b)
+has_more e es a b h = go (eqb e.a a and eqb e.b b)
   where
     go : (d : Bool) → ◌≡◌ {A = Bool} (elim d [ true ↦ true | false ↦ has_edge es a b ]) true
     go true = refl
@@ -97,7 +97,7 @@ module _ (rows : List (List ℕ)) (m : Map) (vs zone : List ℕ) (z : ℕ) (s : 
   -- a listed vertex with an edge to one that is not listed is the first
   out_first : ((i : ℕ) → 0 < i → i < length vs → inner_test rows zone z (get_or vs i 0) ≡ true) → (a b : ℕ) → b < 128 → bit_at rows a b ≡ true
       → member a vs ≡ true → member b vs ≡ false → eqb a (get_or vs 0 0) ≡ true
-  unfolding ◌||◌
+  unfolding ◌or◌
   out_first t a b l h p q = go (lt_or_ge 0 (index_of a vs))
     where
       at : (index_of a vs < length vs) × (get_or vs (index_of a vs) 0 ≡ a)
@@ -106,7 +106,7 @@ module _ (rows : List (List ℕ)) (m : Map) (vs zone : List ℕ) (z : ℕ) (s : 
       go : (0 < index_of a vs) ⊎ (index_of a vs ≤ 0) → eqb a (get_or vs 0 0) ≡ true
       go (inl g) =
           let w : stays_test rows zone z (get_or vs (index_of a vs) 0) b ≡ true = true_of (below_at (stays_test rows zone z (get_or vs (index_of a vs) 0)) 128 (of_true (t (index_of a vs) g at.0)) b l) in
-          let e : (false || not (bit_at rows a b)) ≡ true = ap₂ (λ (x : Bool) (y : ℕ). x || not (bit_at rows y b)) (sym (sym (k.inside b l) ∙ q)) (sym at.1) ∙ w in
+          let e : (false or not (bit_at rows a b)) ≡ true = ap₂ (λ (x : Bool) (y : ℕ). x or not (bit_at rows y b)) (sym (sym (k.inside b l) ∙ q)) (sym at.1) ∙ w in
           no h (not_true_of (bit_at rows a b) e)
       go (inr g) =
           let e : index_of a vs ≡ 0 = omega arith in
@@ -140,19 +140,19 @@ module _ (rows : List (List ℕ)) (m : Map) (vs zone : List ℕ) (z : ℕ) (s : 
       swap (inl e) = inr e
       swap (inr e) = inl e
 
-      first : (same_bool (member a vs) (member b vs) ≡ true) ⊎ ((eqb a (get_or vs 0 0) || eqb b (get_or vs 0 0)) ≡ true) → ⊥
+      first : (same_bool (member a vs) (member b vs) ≡ true) ⊎ ((eqb a (get_or vs 0 0) or eqb b (get_or vs 0 0)) ≡ true) → ⊥
       first (inl e) = no p (same_false _ _ e ∙ q)
       first (inr e) = ends (or_true _ _ e)
 
-      second : (same_bool (member b vs) (member a vs) ≡ true) ⊎ ((eqb b (get_or vs 0 0) || eqb a (get_or vs 0 0)) ≡ true) → ⊥
+      second : (same_bool (member b vs) (member a vs) ≡ true) ⊎ ((eqb b (get_or vs 0 0) or eqb a (get_or vs 0 0)) ≡ true) → ⊥
       second (inl e) = no (same_false _ _ e ∙ p) q
       second (inr e) = ends (swap (or_true _ _ e))
 
   closed_later : every (edge_test vs) m.edges ≡ true → (i : ℕ) → 0 < i → i < length vs → inner_test rows zone z (get_or vs i 0) ≡ true
-  unfolding ◌||◌
+  unfolding ◌or◌
   closed_later t i g l = below_all (stays_test rows zone z (get_or vs i 0)) 128 (λ u h. one u h (eqb (get_or zone u 0) z) refl)
     where
-      one : (u : ℕ) → u < 128 → (x : Bool) → eqb (get_or zone u 0) z ≡ x → (eqb (get_or zone u 0) z || not (bit_at rows (get_or vs i 0) u)) ≡ true
+      one : (u : ℕ) → u < 128 → (x : Bool) → eqb (get_or zone u 0) z ≡ x → (eqb (get_or zone u 0) z or not (bit_at rows (get_or vs i 0) u)) ≡ true
       one u h true e = or_left _ _ e
       one u h false e = or_right (eqb (get_or zone u 0) z) _ (not_of (bit_at rows (get_or vs i 0) u) (λ b. absurd (bad b (lt_or_ge (get_or vs i 0) u))))
         where

@@ -3,7 +3,7 @@ use Rattle.std.specs.Prelude.{ℕ, zero, suc, ◌+◌, ◌-◌, ◌≤◌, ◌<�
 use Rattle.std.proofs.Math.Path.{ap, sym}
 use Rattle.std.proofs.Common.{ap₂, ◌∙◌, arith}
 use borrow.Author.Tests.{ne_eqb, le-leb, lt-leb}
-use Rattle.spec.specs.Outcome.{◌&&◌}
+use Rattle.spec.specs.Outcome.{◌and◌}
 use Rattle.spec.specs.Layout.{Map, of_kind}
 use Rattle.adjacency.specs.Rows.{Shows}
 use Rattle.kinds.specs.Tests.{shape_test, stack_test, test_of, kind_test}
@@ -66,7 +66,7 @@ kind_is rows m listed zone z kind first size a b h l s k = go (four kind a b)
     fits = omega arith
 
     go : {n : ℕ} → Four n → kind_test rows listed zone z n first size ≡ of_kind m (record { kind = n; vertices = part listed first size })
-    go stack = sym (kind_stack rows listed zone z 1 first size h refl) ∙ ap₂ ◌&&◌ (shape_is listed first size fits rows m 1 s) (closed_is rows m listed zone z first size 1 fits s k)
+    go stack = sym (kind_stack rows listed zone z 1 first size h refl) ∙ ap₂ ◌and◌ (shape_is listed first size fits rows m 1 s) (closed_is rows m listed zone z first size 1 fits s k)
     go hall = sym (kind_hall rows listed zone z 2 first size h refl) ∙ shape_is listed first size fits rows m 2 s
     go clique = sym (kind_clique rows listed zone z 3 first size h refl) ∙ shape_is listed first size fits rows m 3 s
     go ring = sym (kind_ring rows listed zone z 4 first size h refl) ∙ shape_is listed first size fits rows m 4 s

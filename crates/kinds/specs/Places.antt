@@ -6,7 +6,7 @@ use Rattle.std.proofs.Common.{ap₂, ◌∙◌, inl, inr, eqb-true, add-one}
 use Rattle.std.proofs.Math.Bool.{true, false, not}
 use Rattle.std.proofs.lemmas.Bool.{eqb-false}
 use native.Mathlib.Omega.{arith}
-use Rattle.spec.specs.Outcome.{◌&&◌, below}
+use Rattle.spec.specs.Outcome.{◌and◌, below}
 use Rattle.spec.specs.Layout.{linked, same_bool}
 use Rattle.theory.specs.Basics.Tests.{below_at, true_of, of_true}
 use Rattle.adjacency.specs.Rows.{bit_at, bit_out, bit_out_2, both, lt_or_ge}
@@ -16,30 +16,30 @@ use Rattle.kinds.specs.Marks.{apart_test, meet_test, mark_word, meet_more, meet_
 
 -- ---- tests of every number below n
 
-pub below_step : (f : ℕ → Bool) (n : ℕ) → below f (n + 1) ≡ (f n && below f n)
-unfolding below ◌&&◌
+pub below_step : (f : ℕ → Bool) (n : ℕ) → below f (n + 1) ≡ (f n and below f n)
+unfolding below ◌and◌
 below_step f n = rw (add-one n) (go (f n))
   where
-    go : (b : Bool) → ◌≡◌ {A = Bool} (elim b [ true ↦ below f n | false ↦ false ]) (b && below f n)
+    go : (b : Bool) → ◌≡◌ {A = Bool} (elim b [ true ↦ below f n | false ↦ false ]) (b and below f n)
     go true = refl
     go false = refl
 
-and_swap : (a b c : Bool) → (a && (b && c)) ≡ (b && (a && c))
-unfolding ◌&&◌
+and_swap : (a b c : Bool) → (a and (b and c)) ≡ (b and (a and c))
+unfolding ◌and◌
 and_swap true true c = refl
 and_swap true false c = refl
 and_swap false true c = refl
 and_swap false false c = refl
 
 -- the first apart from the others
-below_first : (f : ℕ → Bool) (n : ℕ) → below f (n + 1) ≡ (f 0 && below (λ i. f (i + 1)) n)
+below_first : (f : ℕ → Bool) (n : ℕ) → below f (n + 1) ≡ (f 0 and below (λ i. f (i + 1)) n)
 unfolding below
 below_first f zero = below_step f 0
 below_first f (suc n) =
-    below_step f (suc n) ∙ ap (λ (b : Bool). f (suc n) && b) (ap (below f) (sym (add-one n)) ∙ below_first f n)
+    below_step f (suc n) ∙ ap (λ (b : Bool). f (suc n) and b) (ap (below f) (sym (add-one n)) ∙ below_first f n)
     ∙ and_swap (f (suc n)) (f 0) (below (λ i. f (i + 1)) n)
-    ∙ ap (λ (k : ℕ). f 0 && (f k && below (λ i. f (i + 1)) n)) (sym (add-one n))
-    ∙ ap (λ (b : Bool). f 0 && b) (sym (below_step (λ i. f (i + 1)) n) ∙ ap (below (λ i. f (i + 1))) (add-one n))
+    ∙ ap (λ (k : ℕ). f 0 and (f k and below (λ i. f (i + 1)) n)) (sym (add-one n))
+    ∙ ap (λ (b : Bool). f 0 and b) (sym (below_step (λ i. f (i + 1)) n) ∙ ap (below (λ i. f (i + 1))) (add-one n))
 
 -- one that fails
 pub below_fails : (f : ℕ → Bool) (n j : ℕ) → j < n → f j ≡ false → false ≡ below f n
@@ -95,14 +95,14 @@ module _ (rows : List (List ℕ)) (listed : List ℕ) (first : ℕ) where
 
     -- what the code asks of place j: the place before, the first, and those between
     abbrev pub line_test : ℕ → Bool
-    line_test j = joined_at j (j - 1) && (same_bool (joined_at j 0) (linked kind size 0 j) && below (λ i. not (joined_at j (i + 1))) (j - 2))
+    line_test j = joined_at j (j - 1) and (same_bool (joined_at j 0) (linked kind size 0 j) and below (λ i. not (joined_at j (i + 1))) (j - 2))
 
     -- place 1, and place j + 2
     row_one : row_test rows listed first kind size 1 ≡ line_test 1
-    unfolding below ◌&&◌
+    unfolding below ◌and◌
     row_one = below_step (pair_test rows listed first kind size 1) 0 ∙ one (pair_test rows listed first kind size 1 0) (joined_at 1 0) (before 0)
       where
-        one : (a b : Bool) → a ≡ b → (a && true) ≡ (b && (a && true))
+        one : (a b : Bool) → a ≡ b → (a and true) ≡ (b and (a and true))
         one true b e = rw (← e)
         one false b e = rw (← e)
 
@@ -113,9 +113,9 @@ module _ (rows : List (List ℕ)) (listed : List ℕ) (first : ℕ) where
         let c : j + 2 - 2 ≡ j = omega arith in
         ap (below (pair_test rows listed first kind size (j + 2))) a
         ∙ below_step (pair_test rows listed first kind size (j + 2)) (j + 1)
-        ∙ ap₂ ◌&&◌ (ap (λ (k : ℕ). pair_test rows listed first kind size k (j + 1)) a ∙ before (j + 1) ∙ ap₂ joined_at (sym a) (sym b))
+        ∙ ap₂ ◌and◌ (ap (λ (k : ℕ). pair_test rows listed first kind size k (j + 1)) a ∙ before (j + 1) ∙ ap₂ joined_at (sym a) (sym b))
         (below_first (pair_test rows listed first kind size (j + 2)) j
-        ∙ ap (λ (x : Bool). pair_test rows listed first kind size (j + 2) 0 && x)
+        ∙ ap (λ (x : Bool). pair_test rows listed first kind size (j + 2) 0 and x)
         (below_same (λ i. pair_test rows listed first kind size (j + 2) (i + 1)) (λ i. not (joined_at (j + 2) (i + 1))) j (λ i l. between j i l)
         ∙ ap (below (λ i. not (joined_at (j + 2) (i + 1)))) (sym c)))
 
@@ -127,21 +127,21 @@ module _ (rows : List (List ℕ)) (listed : List ℕ) (first : ℕ) where
     -- the ways out of the test: not joined to the place before, not as the kind has it to the first, and what those between say
     module _ (j : ℕ) (pos : 0 < j) where
       pub line_before : joined_at j (j - 1) ≡ false → false ≡ row_test rows listed first kind size j
-      unfolding ◌&&◌
-      line_before e = sym (row_line j pos ∙ ap (λ (b : Bool). b && (same_bool (joined_at j 0) (linked kind size 0 j) && below (λ i. not (joined_at j (i + 1))) (j - 2))) e)
+      unfolding ◌and◌
+      line_before e = sym (row_line j pos ∙ ap (λ (b : Bool). b and (same_bool (joined_at j 0) (linked kind size 0 j) and below (λ i. not (joined_at j (i + 1))) (j - 2))) e)
 
       module _ (before : joined_at j (j - 1) ≡ true) where
-        rest : row_test rows listed first kind size j ≡ (same_bool (joined_at j 0) (linked kind size 0 j) && below (λ i. not (joined_at j (i + 1))) (j - 2))
-        unfolding ◌&&◌
-        rest = row_line j pos ∙ ap (λ (b : Bool). b && (same_bool (joined_at j 0) (linked kind size 0 j) && below (λ i. not (joined_at j (i + 1))) (j - 2))) before
+        rest : row_test rows listed first kind size j ≡ (same_bool (joined_at j 0) (linked kind size 0 j) and below (λ i. not (joined_at j (i + 1))) (j - 2))
+        unfolding ◌and◌
+        rest = row_line j pos ∙ ap (λ (b : Bool). b and (same_bool (joined_at j 0) (linked kind size 0 j) and below (λ i. not (joined_at j (i + 1))) (j - 2))) before
 
         pub line_first : same_bool (joined_at j 0) (linked kind size 0 j) ≡ false → false ≡ row_test rows listed first kind size j
-        unfolding ◌&&◌
-        line_first e = sym (rest ∙ ap (λ (b : Bool). b && below (λ i. not (joined_at j (i + 1))) (j - 2)) e)
+        unfolding ◌and◌
+        line_first e = sym (rest ∙ ap (λ (b : Bool). b and below (λ i. not (joined_at j (i + 1))) (j - 2)) e)
 
         pub line_between : same_bool (joined_at j 0) (linked kind size 0 j) ≡ true → below (λ i. not (joined_at j (i + 1))) (j - 2) ≡ row_test rows listed first kind size j
-        unfolding ◌&&◌
-        line_between e = sym (rest ∙ ap (λ (b : Bool). b && below (λ i. not (joined_at j (i + 1))) (j - 2)) e)
+        unfolding ◌and◌
+        line_between e = sym (rest ∙ ap (λ (b : Bool). b and below (λ i. not (joined_at j (i + 1))) (j - 2)) e)
 
   -- the first row asks nothing
   row_zero : (kind size : ℕ) → row_test rows listed first kind size 0 ≡ true
@@ -193,7 +193,7 @@ module _ (rows : List (List ℕ)) (listed : List ℕ) (first : ℕ) where
 
   pub below_next : (low high j u : ℕ) → u ≡ get_or listed (first + j) 0 → u < 128 → Below low high j → Below (mark_word low 0 u) (mark_word high 1 u) (j + 1)
   below_next low high j u e l h v s =
-      meet_more rows low high v u s l ∙ ap₂ ◌&&◌ (ap (bit_at rows v) e) (h v s) ∙ sym (below_step (λ i. bit_at rows v (get_or listed (first + i) 0)) j)
+      meet_more rows low high v u s l ∙ ap₂ ◌and◌ (ap (bit_at rows v) e) (h v s) ∙ sym (below_step (λ i. bit_at rows v (get_or listed (first + i) 0)) j)
 
   pub between_start : (j : ℕ) → j ≤ 2 → Between 0 0 j
   unfolding below
@@ -203,6 +203,6 @@ module _ (rows : List (List ℕ)) (listed : List ℕ) (first : ℕ) where
   between_next low high j u l e h v =
       let a : j - 1 ≡ j - 2 + 1 = omega arith in
       let b : j - 2 + 1 ≡ j + 1 - 2 = omega arith in
-      apart_more rows low high v u ∙ ap₂ ◌&&◌ (ap (λ (x : ℕ). not (bit_at rows v x)) (e ∙ ap (λ (k : ℕ). get_or listed (first + k) 0) a)) (h v)
+      apart_more rows low high v u ∙ ap₂ ◌and◌ (ap (λ (x : ℕ). not (bit_at rows v x)) (e ∙ ap (λ (k : ℕ). get_or listed (first + k) 0) a)) (h v)
       ∙ sym (below_step (λ i. not (bit_at rows v (get_or listed (first + (i + 1)) 0))) (j - 2))
       ∙ ap (below (λ i. not (bit_at rows v (get_or listed (first + (i + 1)) 0)))) b

@@ -1,7 +1,7 @@
 -- The kind tests as the code makes them, on the rows and the vertices of all zones one after the other.
 use Rattle.std.specs.Prelude.{ℕ, zero, suc, ◌+◌, ◌-◌, ◌<◌, ◌≡◌, refl, Bool, true, false, not, List, get_or, eqb, leb}
 use Rattle.std.proofs.Common.{ap, ap₂, sym, arith}
-use Rattle.spec.specs.Outcome.{◌&&◌, ◌||◌, below}
+use Rattle.spec.specs.Outcome.{◌and◌, ◌or◌, below}
 use Rattle.spec.specs.Layout.{linked, same_bool}
 use Rattle.adjacency.specs.Rows.{bit_at}
 
@@ -17,7 +17,7 @@ shape_test rows listed first kind size = below (row_test rows listed first kind 
 
 -- v is not joined to u, or u is in zone z
 abbrev pub stays_test : List (List ℕ) → List ℕ → ℕ → ℕ → ℕ → Bool
-stays_test rows zone z v u = eqb (get_or zone u 0) z || not (bit_at rows v u)
+stays_test rows zone z v u = eqb (get_or zone u 0) z or not (bit_at rows v u)
 
 abbrev pub inner_test : List (List ℕ) → List ℕ → ℕ → ℕ → Bool
 inner_test rows zone z v = below (stays_test rows zone z v) 128
@@ -30,7 +30,7 @@ abbrev pub closed_test : List (List ℕ) → List ℕ → List ℕ → ℕ → �
 closed_test rows listed zone z first size = below (later_test rows listed zone z first) (size - 1)
 
 unfoldable pub stack_test : List (List ℕ) → List ℕ → List ℕ → ℕ → ℕ → ℕ → Bool
-stack_test rows listed zone z first size = shape_test rows listed first 1 size && closed_test rows listed zone z first size
+stack_test rows listed zone z first size = shape_test rows listed first 1 size and closed_test rows listed zone z first size
 
 -- the test of a kind; other numbers are refused
 unfoldable pub test_of : List (List ℕ) → List ℕ → List ℕ → ℕ → ℕ → ℕ → ℕ → Bool
@@ -77,10 +77,10 @@ below_all f (suc n) h = rw (h n (omega arith), below) (below_all f n (λ i l. h 
 
 -- a stack is shaped, and closed
 pub stack_not : (rows : List (List ℕ)) (listed zone : List ℕ) (z first size : ℕ) → shape_test rows listed first 1 size ≡ false → false ≡ stack_test rows listed zone z first size
-unfolding stack_test ◌&&◌
-stack_not rows listed zone z first size e = sym (ap (λ (b : Bool). b && closed_test rows listed zone z first size) e)
+unfolding stack_test ◌and◌
+stack_not rows listed zone z first size e = sym (ap (λ (b : Bool). b and closed_test rows listed zone z first size) e)
 
 pub stack_shaped : (rows : List (List ℕ)) (listed zone : List ℕ) (z first size : ℕ) → shape_test rows listed first 1 size ≡ true
     → closed_test rows listed zone z first size ≡ stack_test rows listed zone z first size
-unfolding stack_test ◌&&◌
-stack_shaped rows listed zone z first size e = sym (ap (λ (b : Bool). b && closed_test rows listed zone z first size) e)
+unfolding stack_test ◌and◌
+stack_shaped rows listed zone z first size e = sym (ap (λ (b : Bool). b and closed_test rows listed zone z first size) e)

@@ -8,7 +8,7 @@ use Rattle.std.specs.Int.Bits.{bit_and, and_step, and_zero_r}
 use borrow.Author.Tests.{eq-eqb, eqb-true}
 use Rattle.std.proofs.Math.Nat.{pow-le-pow_right}
 use native.Mathlib.Omega.{arith}
-use Rattle.spec.specs.Outcome.{◌||◌, below}
+use Rattle.spec.specs.Outcome.{◌or◌, below}
 use Rattle.theory.specs.Basics.Tests.{below_at, true_of, of_true}
 use Rattle.adjacency.specs.Bit.{bit_of, bit_zero, bit_suc}
 use Rattle.adjacency.specs.Rows.{bit_at, bit_in_lem, bit_out, same_test, or_left, or_right, lt_or_ge}
@@ -48,7 +48,7 @@ out_more zone z from i h l =
 
 -- vertex at + i is in zone z, or bit i of the word is not set
 abbrev clear_at : List ℕ → ℕ → ℕ → ℕ → ℕ → Bool
-clear_at zone z at a i = eqb (get_or zone (at + i) 0) z || not (eqb (bit_of a i) 1)
+clear_at zone z at a i = eqb (get_or zone (at + i) 0) z or not (eqb (bit_of a i) 1)
 
 -- one bit more at the bottom
 pub split : (a w d : ℕ) → d < 2 → bit_and a (w * 2 + d) ≡ bit_and (a / 2) w * 2 + min (a % 2) d
@@ -59,7 +59,7 @@ split a w d h =
 
 -- no bit in common: each vertex is in the zone or its bit is not set
 common_none : (zone : List ℕ) (z at k a : ℕ) → bit_and a (out_from zone z at k) ≡ 0 → (i : ℕ) → i < k → clear_at zone z at a i ≡ true
-unfolding out_from ◌||◌
+unfolding out_from ◌or◌
 common_none zone z at zero a e i h = absurd (omega arith)
 common_none zone z at (suc k) a e zero h = go (eqb (get_or zone at 0) z) refl
   where
@@ -79,7 +79,7 @@ common_none zone z at (suc k) a e (suc i) h =
     let s = sym (split a (out_from zone z (at + 1) k) (out_bit (eqb (get_or zone at 0) z)) (bit_lt (eqb (get_or zone at 0) z))) ∙ e in
     let t : bit_and (a / 2) (out_from zone z (at + 1) k) ≡ 0 = omega arith in
     let o : at + 1 + i ≡ at + suc i = omega arith in
-    ap₂ (λ (x y : ℕ). eqb (get_or zone x 0) z || not (eqb y 1)) (sym o) (bit_suc a i) ∙ common_none zone z (at + 1) k (a / 2) t i (omega arith)
+    ap₂ (λ (x y : ℕ). eqb (get_or zone x 0) z or not (eqb y 1)) (sym o) (bit_suc a i) ∙ common_none zone z (at + 1) k (a / 2) t i (omega arith)
 
 -- a bit that is not 1
 pub clear : (x : ℕ) → x < 2 → not (eqb x 1) ≡ true → x ≡ 0
@@ -89,7 +89,7 @@ clear (suc (suc x)) l e = absurd (omega arith)
 
 -- and the other way
 none_common : (zone : List ℕ) (z at k a : ℕ) → ((i : ℕ) → i < k → clear_at zone z at a i ≡ true) → bit_and a (out_from zone z at k) ≡ 0
-unfolding out_from ◌||◌
+unfolding out_from ◌or◌
 none_common zone z at zero a h = and_zero_r a
 none_common zone z at (suc k) a h =
     split a (out_from zone z (at + 1) k) (out_bit (eqb (get_or zone at 0) z)) (bit_lt (eqb (get_or zone at 0) z))
@@ -101,7 +101,7 @@ none_common zone z at (suc k) a h =
     later : (i : ℕ) → i < k → clear_at zone z (at + 1) (a / 2) i ≡ true
     later i l =
         let p : at + 1 + i ≡ at + suc i = omega arith in
-        ap₂ (λ (x y : ℕ). eqb (get_or zone x 0) z || not (eqb y 1)) p (sym (bit_suc a i)) ∙ h (suc i) (omega arith)
+        ap₂ (λ (x y : ℕ). eqb (get_or zone x 0) z or not (eqb y 1)) p (sym (bit_suc a i)) ∙ h (suc i) (omega arith)
 
     go : (b : Bool) → eqb (get_or zone at 0) z ≡ b → min (a % 2) (out_bit (eqb (get_or zone at 0) z)) ≡ 0
     go true q = ap (λ (b : Bool). min (a % 2) (out_bit b)) q ∙ omega arith
@@ -134,11 +134,11 @@ module _ (rows : List (List ℕ)) (zone : List ℕ) (z v : ℕ) where
     first_word : inner_test rows zone z v ≡ true → bit_and (get_or (get_or rows v []) 0 0) (out_from zone z 0 64) ≡ 0
     first_word t = none_common zone z 0 64 (get_or (get_or rows v []) 0 0) (λ i l.
         let o : 0 + i ≡ i = omega arith in
-        ap₂ (λ (x : ℕ) (b : Bool). eqb (get_or zone x 0) z || not b) o (sym (low_bit rows v i low l)) ∙ true_of (below_at (stays_test rows zone z v) 128 (of_true t) i (omega arith)))
+        ap₂ (λ (x : ℕ) (b : Bool). eqb (get_or zone x 0) z or not b) o (sym (low_bit rows v i low l)) ∙ true_of (below_at (stays_test rows zone z v) 128 (of_true t) i (omega arith)))
 
     second_word : inner_test rows zone z v ≡ true → bit_and (get_or (get_or rows v []) 1 0) (out_from zone z 64 64) ≡ 0
     second_word t = none_common zone z 64 64 (get_or (get_or rows v []) 1 0) (λ i l.
-        ap (λ (b : Bool). eqb (get_or zone (64 + i) 0) z || not b) (sym (high_bit rows v i low l)) ∙ true_of (below_at (stays_test rows zone z v) 128 (of_true t) (64 + i) (omega arith)))
+        ap (λ (b : Bool). eqb (get_or zone (64 + i) 0) z or not b) (sym (high_bit rows v i low l)) ∙ true_of (below_at (stays_test rows zone z v) 128 (of_true t) (64 + i) (omega arith)))
 
     -- a bit in common with the first word, or with the second, is an edge out of the zone
     pub inner_first : (bit_and (get_or (get_or rows v []) 0 0) (out_from zone z 0 64) ≡ 0 → ⊥) → false ≡ inner_test rows zone z v
@@ -149,7 +149,7 @@ module _ (rows : List (List ℕ)) (zone : List ℕ) (z v : ℕ) where
         go false t = sym t
 
     pub inner_second : bit_and (get_or (get_or rows v []) 0 0) (out_from zone z 0 64) ≡ 0 → eqb (bit_and (get_or (get_or rows v []) 1 0) (out_from zone z 64 64)) 0 ≡ inner_test rows zone z v
-    unfolding ◌||◌
+    unfolding ◌or◌
     inner_second f = same_test (eqb (bit_and (get_or (get_or rows v []) 1 0) (out_from zone z 64 64)) 0) (inner_test rows zone z v)
         (λ e. below_all (stays_test rows zone z v) 128 (λ u l. one (eqb-true _ _ e) u l (lt_or_ge u 64)))
         (λ t. eq-eqb _ _ (second_word t))
@@ -157,8 +157,8 @@ module _ (rows : List (List ℕ)) (zone : List ℕ) (z v : ℕ) where
         one : bit_and (get_or (get_or rows v []) 1 0) (out_from zone z 64 64) ≡ 0 → (u : ℕ) → u < 128 → (u < 64) ⊎ (64 ≤ u) → stays_test rows zone z v u ≡ true
         one s u l (inl q) =
             let o : 0 + u ≡ u = omega arith in
-            ap₂ (λ (x : ℕ) (b : Bool). eqb (get_or zone x 0) z || not b) (sym o) (low_bit rows v u low q) ∙ common_none zone z 0 64 (get_or (get_or rows v []) 0 0) f u q
+            ap₂ (λ (x : ℕ) (b : Bool). eqb (get_or zone x 0) z or not b) (sym o) (low_bit rows v u low q) ∙ common_none zone z 0 64 (get_or (get_or rows v []) 0 0) f u q
         one s u l (inr q) =
             let o : u ≡ 64 + (u - 64) = omega arith in
             ap (stays_test rows zone z v) o
-            ∙ ap (λ (b : Bool). eqb (get_or zone (64 + (u - 64)) 0) z || not b) (high_bit rows v (u - 64) low (omega arith)) ∙ common_none zone z 64 64 (get_or (get_or rows v []) 1 0) s (u - 64) (omega arith)
+            ∙ ap (λ (b : Bool). eqb (get_or zone (64 + (u - 64)) 0) z or not b) (high_bit rows v (u - 64) low (omega arith)) ∙ common_none zone z 64 64 (get_or (get_or rows v []) 1 0) s (u - 64) (omega arith)

@@ -1,6 +1,6 @@
 // What can be reached in a zone of a kind.
 ghost use Rattle.std.specs.Prelude.{◌≡◌, ◌≤◌, ◌<◌, length, eqb};
-ghost use Rattle.spec.specs.Outcome.{◌&&◌};
+ghost use Rattle.spec.specs.Outcome.{◌and◌};
 ghost use Rattle.spec.specs.Arrangement.{full, last_free};
 ghost use Rattle.spec.specs.Ring.{ring_behind};
 ghost use Rattle.spec.specs.State.{arrangement_of};
@@ -42,7 +42,7 @@ pub fn is_full(robots: &[u8], zone: &[u8]) -> bool
 
 // Does whoever enters fill a clique, so that the step has a follow list?
 pub fn fills(kind: u8, robots: &[u8], zone: &[u8]) -> bool
-    ensures { result ≡ (eqb kind 3 && last_free (arrangement_of (on_vertices robots.now) zone.now)) }
+    ensures { result ≡ (eqb kind 3 and last_free (arrangement_of (on_vertices robots.now) zone.now)) }
 {
     if kind == 3 {
         return vacating::last_free(robots, zone);

@@ -4,7 +4,7 @@ use Rattle.std.proofs.Math.Path.{refl}
 use Rattle.std.proofs.Common.{sym, ap, subst, ◌∙◌, ⊎_elim, arith, add-zero, length-take-le, ltb→lt, leb→le, eqb→eq}
 use Rattle.std.proofs.Math.Logic.{inl, inr}
 use Prim.Native.Nat.{ℕ, zero, suc, ◌+◌, ◌*◌, ◌/◌, ◌≤◌, ◌<◌}
-use Rattle.spec.specs.Outcome.{Outcome, ok, refuse, ◌>>=◌, ◌>>◌, check, ◌&&◌}
+use Rattle.spec.specs.Outcome.{Outcome, ok, refuse, ◌>>=◌, ◌>>◌, check, ◌and◌}
 use Rattle.spec.specs.Wire.{payload_of}
 use Rattle.spec.specs.Layout.{Map, Placing, joined, map_of, placing_of}
 use Rattle.spec.specs.Arrangement.{Move, mv}

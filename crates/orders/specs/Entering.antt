@@ -9,7 +9,7 @@ use Rattle.std.proofs.Math.ListN.{length, set, length-set}
 use Rattle.std.proofs.lemmas.List.{length-map, set_at}
 use Rattle.std.proofs.Math.Seq.{take-length, drop-length}
 use Rattle.std.proofs.Math.Dec.{eqb→eq}
-use Rattle.spec.specs.Outcome.{◌&&◌}
+use Rattle.spec.specs.Outcome.{◌and◌}
 use Rattle.spec.specs.Arrangement.{Arrangement, cell, order, full, last_free, last_named}
 use Rattle.spec.specs.Clique.{named}
 use Rattle.spec.specs.Ring.{wrap, opened, ring_behind}
@@ -138,7 +138,7 @@ module _ (l : List ℕ) (c : Arrangement) (r j : ℕ) (p : Proper c) (n : Absent
 
   -- a clique that r fills
   clique_fills : (list : List ℕ) → Filled 3 c j r list → length (order c) ≡ length l → suc (length l) ≡ length c → Holds 3 list (set c j (suc r))
-  unfolding last_free ◌&&◌ named
+  unfolding last_free ◌and◌ named
   clique_fills list q k f =
       let x = set c j (suc r) in
       let y = named_robots x (omega (arith, count_put c j r e h, length-set c j (suc r))) in

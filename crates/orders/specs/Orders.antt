@@ -1,7 +1,7 @@
 -- A zone's configuration kept as the list of its robots: in order in a hall, in order up to turning in a ring, in any order in a clique, and by
 -- place where the zone is full. Document 01, "Zones and configurations": the tests of a step need no more.
 use Rattle.std.specs.Prelude.{◌≡◌, Bool, true, false, List, [], ◌∷◌, ◌++◌, map, ℕ, zero, suc, ◌+◌, ◌-◌, ◌≤◌, length, get_or, take, drop, replicate, eqb}
-use Rattle.spec.specs.Outcome.{◌&&◌, all, member, index_of, same_list}
+use Rattle.spec.specs.Outcome.{◌and◌, all, member, index_of, same_list}
 use Rattle.spec.specs.Arrangement.{Arrangement}
 use Rattle.spec.specs.Hall.{room}
 use Rattle.spec.specs.Ring.{wrap, turned}
@@ -57,7 +57,7 @@ pinned n l r j = elim (eqb (length l) n) [ true ↦ eqb (get_or l j 0) r | false
 
 -- there is room for those below and above the leaver
 unfoldable pub hall_leaves : ℕ → List ℕ → ℕ → ℕ → Bool
-hall_leaves n l r j = let t : ℕ = index_of r l in member r l && room n j t (length l - suc t)
+hall_leaves n l r j = let t : ℕ = index_of r l in member r l and room n j t (length l - suc t)
 
 -- can robot r leave at place j of a zone of n places
 unfoldable pub leave_test : ℕ → ℕ → List ℕ → ℕ → ℕ → Bool
@@ -65,15 +65,15 @@ leave_test kind n l r j = by_kind kind (pinned n l r j) (pinned n l r j) (hall_l
 
 -- the same robots
 unfoldable pub same_members : List ℕ → List ℕ → Bool
-same_members l o = eqb (length l) (length o) && all (λ r. member r o) l && all (λ r. member r l) o
+same_members l o = eqb (length l) (length o) and all (λ r. member r o) l and all (λ r. member r l) o
 
 -- the follow list names the robots inside, and r at place j
 unfoldable pub list_met : List ℕ → ℕ → ℕ → List ℕ → Bool
-list_met l r j list = eqb (get_or list j 0) r && same_members l (without j list)
+list_met l r j list = eqb (get_or list j 0) r and same_members l (without j list)
 
 -- no robot is named in a clique; where r fills it, the follow list is met
 unfoldable pub clique_enters : ℕ → List ℕ → ℕ → ℕ → ℕ → List ℕ → Bool
-clique_enters n l r j behind list = eqb behind 255 && elim (eqb (suc (length l)) n) [ true ↦ list_met l r j list | false ↦ true ]
+clique_enters n l r j behind list = eqb behind 255 and elim (eqb (suc (length l)) n) [ true ↦ list_met l r j list | false ↦ true ]
 
 -- in a ring one that is inside is named, none if it is empty
 unfoldable pub ring_enters : List ℕ → ℕ → Bool
@@ -83,7 +83,7 @@ ring_enters l behind = elim (eqb (length l) 0) [ true ↦ eqb behind 255 | false
 unfoldable pub hall_enters : ℕ → List ℕ → ℕ → ℕ → Bool
 hall_enters n l j behind =
     let t : ℕ = entry_in behind l in
-    elim (eqb behind 255) [ true ↦ true | false ↦ member behind l ] && room n j t (length l - t)
+    elim (eqb behind 255) [ true ↦ true | false ↦ member behind l ] and room n j t (length l - t)
 
 -- can robot r enter at place j of a zone of n places that is not full
 unfoldable pub enter_test : ℕ → ℕ → List ℕ → ℕ → ℕ → ℕ → List ℕ → Bool

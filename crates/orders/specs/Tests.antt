@@ -5,7 +5,7 @@ use Rattle.std.specs.Prelude.{Bool, not, List, [], ◌∷◌, map, length, get_o
 use Rattle.std.proofs.Math.Bool.{true, false}
 use Prim.Native.Nat.{ℕ, zero, suc, ◌≤◌, ◌<◌}
 use Rattle.std.proofs.Math.Dec.{eqb, eqb-suc-suc}
-use Rattle.spec.specs.Outcome.{◌&&◌, member, same_list}
+use Rattle.spec.specs.Outcome.{◌and◌, member, same_list}
 use Rattle.spec.specs.Arrangement.{Arrangement, cell, order, full, last_free}
 use Rattle.spec.specs.Hall.{lower_than, hall_can_leave, hall_can_enter, hall_can_end}
 use Rattle.spec.specs.Clique.{same_robots, named, clique_can_leave, clique_can_enter, clique_can_end}
@@ -104,13 +104,13 @@ module _ (n : ℕ) (l : List ℕ) (h : length l ≤ n) where
   -- entering a clique, where a follow list that fills it is as long as the clique
   clique_enter_lem : (r j behind : ℕ) (list : List ℕ) → j < n → (suc (length l) ≡ n → length list ≡ n) → clique_can_enter (packed n l) r j behind list ≡ clique_enters n l r j behind list
   unfolding clique_can_enter clique_enters list_met named
-  clique_enter_lem r j behind list k f = rw (packed_last n l h) (ap (λ b. eqb behind 255 && b) (go (eqb? (suc (length l)) n)))
+  clique_enter_lem r j behind list k f = rw (packed_last n l h) (ap (λ b. eqb behind 255 and b) (go (eqb? (suc (length l)) n)))
     where
       go : {q : Bool} → Eqb (suc (length l)) n q
-          → ◌≡◌ {A = Bool} (elim q [ true ↦ eqb (cell (map suc list) j) (suc r) && same_robots (packed n l) (set (map suc list) j 0) | false ↦ true ]) (elim q [ true ↦ eqb (get_or list j 0) r && same_members l (without j list) | false ↦ true ])
+          → ◌≡◌ {A = Bool} (elim q [ true ↦ eqb (cell (map suc list) j) (suc r) and same_robots (packed n l) (set (map suc list) j 0) | false ↦ true ]) (elim q [ true ↦ eqb (get_or list j 0) r and same_members l (without j list) | false ↦ true ])
       go (same e) =
           let m = f e in
-          ap₂ {C = Bool} (λ x y. x && y) (ap {B = Bool} (λ x. eqb x (suc r)) (get_d_map suc list j (omega arith)) ∙ eqb-suc-suc (get_or list j 0) r)
+          ap₂ {C = Bool} (λ x y. x and y) (ap {B = Bool} (λ x. eqb x (suc r)) (get_d_map suc list j (omega arith)) ∙ eqb-suc-suc (get_or list j 0) r)
           (same_members_lem (set (map suc list) j 0) ∙ ap (same_members l) (order_unset j list (omega arith)))
       go (other e) = refl
 

@@ -5,7 +5,7 @@ use Rattle.std.proofs.Math.Path.{ap, subst}
 use Rattle.std.proofs.Common.{ap₂, sym, ◌∙◌, length-set, take-suc-set, get_or-set_same, get_or-set_other, length-take-le, add-one}
 use borrow.Author.Tests.{lt-ltb, le-ltb, le-leb, lt-leb, eq-eqb, ne_eqb, eqb-true, eqb-false}
 use native.Mathlib.Omega.{arith}
-use Rattle.spec.specs.Outcome.{Outcome, ok, refuse, ◌>>=◌, ◌>>◌, check, ◌&&◌, member}
+use Rattle.spec.specs.Outcome.{Outcome, ok, refuse, ◌>>=◌, ◌>>◌, check, ◌and◌, member}
 use Rattle.spec.specs.Wire.{payload_of}
 use Rattle.spec.specs.Layout.{Map, Placing, read_robots, placing_of}
 use Rattle.theory.specs.Basics.Lists.{get_d_uniform}
@@ -93,24 +93,24 @@ module _ (file : List ℕ) (m n o : ℕ) (ss gs : List ℕ) where
   robots_short (suc todo) h l = rw (no_byte file m 25 o l)
 
   module _ (s : ℕ) (is-s : s ≡ get_or file (place_of o) 0) (there : o < m) where
-    robots_start : (todo : ℕ) → 0 < todo → (ltb s n && not (member s ss)) ≡ false → read_robots n (held file m) todo o ss gs ≡ refuse 27 o
+    robots_start : (todo : ℕ) → 0 < todo → (ltb s n and not (member s ss)) ≡ false → read_robots n (held file m) todo o ss gs ≡ refuse 27 o
     unfolding read_robots ◌>>=◌ ◌>>◌ check
     robots_start zero h e = absurd (omega arith)
     robots_start (suc todo) h e = rw (a_byte file m 25 o there, ← is-s, e)
 
-    module _ (fine : (ltb s n && not (member s ss)) ≡ true) where
+    module _ (fine : (ltb s n and not (member s ss)) ≡ true) where
       robots_half : (todo : ℕ) → 0 < todo → m ≤ o + 1 → read_robots n (held file m) todo o ss gs ≡ refuse 25 (o + 1)
       unfolding read_robots ◌>>=◌ ◌>>◌ check
       robots_half zero h l = absurd (omega arith)
       robots_half (suc todo) h l = rw (a_byte file m 25 o there, ← is-s, fine, no_byte file m 25 (o + 1) l)
 
       module _ (g : ℕ) (is-g : g ≡ get_or file (place_of (o + 1)) 0) (behind : o + 1 < m) where
-        robots_goal : (todo : ℕ) → 0 < todo → (ltb g n && not (member g gs)) ≡ false → read_robots n (held file m) todo o ss gs ≡ refuse 28 (o + 1)
+        robots_goal : (todo : ℕ) → 0 < todo → (ltb g n and not (member g gs)) ≡ false → read_robots n (held file m) todo o ss gs ≡ refuse 28 (o + 1)
         unfolding read_robots ◌>>=◌ ◌>>◌ check
         robots_goal zero h e = absurd (omega arith)
         robots_goal (suc todo) h e = rw (a_byte file m 25 o there, ← is-s, fine, a_byte file m 25 (o + 1) behind, ← is-g, e)
 
-        robots_more : (todo : ℕ) → 0 < todo → (ltb g n && not (member g gs)) ≡ true
+        robots_more : (todo : ℕ) → 0 < todo → (ltb g n and not (member g gs)) ≡ true
             → read_robots n (held file m) todo o ss gs ≡ read_robots n (held file m) (todo - 1) (o + 2) (ss ++ (s ∷ [])) (gs ++ (g ∷ []))
         unfolding read_robots ◌>>=◌ ◌>>◌ check
         robots_more zero h e = absurd (omega arith)
@@ -144,8 +144,8 @@ going_start file m n k = record {
     a2 = omega arith
 
 -- the code's test is the definition's
-fresh_is : (n v : ℕ) (l marks : List ℕ) → Marked l marks → (ltb v n && not (eqb (get_or marks v 0) 1)) ≡ (ltb v n && not (member v l))
-fresh_is n v l marks k = ap (λ (b : Bool). ltb v n && not b) (sym (k.says v))
+fresh_is : (n v : ℕ) (l marks : List ℕ) → Marked l marks → (ltb v n and not (eqb (get_or marks v 0) 1)) ≡ (ltb v n and not (member v l))
+fresh_is n v l marks k = ap (λ (b : Bool). ltb v n and not b) (sym (k.says v))
 
 module _ (file : List ℕ) (m n k : ℕ) (starts goals started ended : List ℕ) (i : ℕ) (g : Going file m n k starts goals started ended i) (more : i < k) where
   pub going_short : m ≤ 1 + i * 2 → read_robots n (held file m) k 1 [] [] ≡ refuse 25 (1 + i * 2)
@@ -153,11 +153,11 @@ module _ (file : List ℕ) (m n k : ℕ) (starts goals started ended : List ℕ)
 
   module _ (s : ℕ) (is-s : s ≡ get_or file (place_of (1 + i * 2)) 0) (there : 1 + i * 2 < m) where
     -- a start that is not below n, or that another robot has
-    pub going_start_bad : (ltb s n && not (eqb (get_or started s 0) 1)) ≡ false → read_robots n (held file m) k 1 [] [] ≡ refuse 27 (1 + i * 2)
+    pub going_start_bad : (ltb s n and not (eqb (get_or started s 0) 1)) ≡ false → read_robots n (held file m) k 1 [] [] ≡ refuse 27 (1 + i * 2)
     going_start_bad e = g.rest ∙ robots_start file m n (1 + i * 2) (take i starts) (take i goals) s is-s there (k - i) (omega arith) (sym (fresh_is n s (take i starts) started g.started_are) ∙ e)
 
-    module _ (fresh : (ltb s n && not (eqb (get_or started s 0) 1)) ≡ true) where
-      fine : (ltb s n && not (member s (take i starts))) ≡ true
+    module _ (fresh : (ltb s n and not (eqb (get_or started s 0) 1)) ≡ true) where
+      fine : (ltb s n and not (member s (take i starts))) ≡ true
       fine = sym (fresh_is n s (take i starts) started g.started_are) ∙ fresh
 
       pub going_half : m ≤ 1 + i * 2 + 1 → read_robots n (held file m) k 1 [] [] ≡ refuse 25 (1 + i * 2 + 1)
@@ -165,11 +165,11 @@ module _ (file : List ℕ) (m n k : ℕ) (starts goals started ended : List ℕ)
 
       module _ (d : ℕ) (is-d : d ≡ get_or file (place_of (1 + i * 2 + 1)) 0) (behind : 1 + i * 2 + 1 < m) where
         -- a goal that is not below n, or that another robot has
-        pub going_goal_bad : (ltb d n && not (eqb (get_or ended d 0) 1)) ≡ false → read_robots n (held file m) k 1 [] [] ≡ refuse 28 (1 + i * 2 + 1)
+        pub going_goal_bad : (ltb d n and not (eqb (get_or ended d 0) 1)) ≡ false → read_robots n (held file m) k 1 [] [] ≡ refuse 28 (1 + i * 2 + 1)
         going_goal_bad e = g.rest ∙ robots_goal file m n (1 + i * 2) (take i starts) (take i goals) s is-s there fine d is-d behind (k - i) (omega arith)
             (sym (fresh_is n d (take i goals) ended g.ended_are) ∙ e)
 
-        pub going_more : k ≤ 64 → s < 256 → d < 256 → (ltb d n && not (eqb (get_or ended d 0) 1)) ≡ true
+        pub going_more : k ≤ 64 → s < 256 → d < 256 → (ltb d n and not (eqb (get_or ended d 0) 1)) ≡ true
             → Going file m n k (set starts i s) (set goals i d) (set started s 1) (set ended d 1) (i + 1)
         going_more few ls ld e = record {
           long_starts = length-set starts i s ∙ g.long_starts;
@@ -243,16 +243,16 @@ module _ (file : List ℕ) (m n : ℕ) (p : Map) (on : p.size ≡ n) where
 
   module _ (k : ℕ) (is-k : k ≡ get_or file (place_of 0) 0) (there : 0 < m) where
     pub count_over : 64 < k → placing_of p (held file m) ≡ refuse 26 0
-    unfolding placing_of ◌>>=◌ ◌>>◌ check ◌&&◌
+    unfolding placing_of ◌>>=◌ ◌>>◌ check ◌and◌
     count_over h = rw (placing_of, a_byte file m 25 0 there, ← is-k, lt-leb k 64 h)
 
     pub count_above : k ≤ 64 → n < k → placing_of p (held file m) ≡ refuse 26 0
-    unfolding placing_of ◌>>=◌ ◌>>◌ check ◌&&◌
+    unfolding placing_of ◌>>=◌ ◌>>◌ check ◌and◌
     count_above h l = rw (placing_of, on, a_byte file m 25 0 there, ← is-k, le-leb k 64 h, lt-leb k n l)
 
     module _ (few : k ≤ 64) (low : k ≤ n) (r : PlacingRead) (a : RobotsAre (held file m) n k r) where
       step : placing_of p (held file m) ≡ (read_robots n (held file m) k 1 [] [] >>= (λ pl. check (eqb (1 + k * 2) (length (held file m))) 25 (1 + k * 2) >> ok pl))
-      unfolding placing_of ◌>>=◌ ◌>>◌ check ◌&&◌
+      unfolding placing_of ◌>>=◌ ◌>>◌ check ◌and◌
       step = rw (placing_of, on, a_byte file m 25 0 there, ← is-k, le-leb k 64 few, le-leb k n low)
 
       pub placing_refused : sound_of r.fault ≡ false → PlacingIs (placing_of p (held file m)) r
@@ -300,10 +300,10 @@ payload_bound file k m h e =
     (w.most, omega (arith, w.most, w.limited))
 
 -- the two ways of the test
-pub fresh_over : (n v : ℕ) (b : Bool) → n ≤ v → false ≡ (ltb v n && b)
-unfolding ◌&&◌
+pub fresh_over : (n v : ℕ) (b : Bool) → n ≤ v → false ≡ (ltb v n and b)
+unfolding ◌and◌
 fresh_over n v b h = rw (le-ltb v n h)
 
-pub fresh_under : (n v : ℕ) (b : Bool) → v < n → b ≡ (ltb v n && b)
-unfolding ◌&&◌
+pub fresh_under : (n v : ℕ) (b : Bool) → v < n → b ≡ (ltb v n and b)
+unfolding ◌and◌
 fresh_under n v b h = rw (lt-ltb v n h)

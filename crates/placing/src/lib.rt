@@ -2,7 +2,7 @@
 #![tactic(auto)]
 
 ghost use Rattle.std.specs.Prelude.{◌≡◌, not, ◌≤◌, get_or, eqb, ltb};
-ghost use Rattle.spec.specs.Outcome.{◌&&◌};
+ghost use Rattle.spec.specs.Outcome.{◌and◌};
 ghost use Rattle.spec.specs.Layout.{Map, placing_of};
 ghost use Rattle.zoning.specs.Bytes.{held};
 ghost use Rattle.layout.specs.Tables.{entry_of};
@@ -63,7 +63,7 @@ fn refused(fault: PlacingFault) -> PlacingRead
 
 // Is v below n, and not marked?
 fn fresh(marks: &[u8; 256], v: u8, n: usize) -> bool
-    ensures { result ≡ (ltb v n && not (eqb (get_or marks.now v 0) 1)) }
+    ensures { result ≡ (ltb v n and not (eqb (get_or marks.now v 0) 1)) }
 {
     let i = v as usize;
     if i >= n {

@@ -1,6 +1,6 @@
 -- Yard A's listing, byte for byte as document 01 shows it (marked P there).
 use Rattle.std.specs.Prelude.{◌≡◌, refl, ℕ, List, [], ◌∷◌}
-use Rattle.spec.specs.Outcome.{◌>>=◌, ◌>>◌, check, ◌&&◌, ◌||◌}
+use Rattle.spec.specs.Outcome.{◌>>=◌, ◌>>◌, check, ◌and◌, ◌or◌}
 use Rattle.spec.specs.Wire.{file_of, map_kind, placing_kind, plan_kind}
 use Rattle.spec.specs.State.{moves_payload, rounds_from}
 use Rattle.spec.specs.Services.{plan_moves, fits}
@@ -31,5 +31,5 @@ yard_text =
     49 ∷ 32 ∷ 48 ∷ 32 ∷ 51 ∷ 32 ∷ 51 ∷ 10 ∷ []
 
 pub yard_a : listing_of (file_of map_kind yard_map) (file_of placing_kind yard_placing) (file_of plan_kind yard_plan) ≡ yard_text
-unfolding listing_of plan_moves fits moves_payload rounds_from file_of decimal ◌>>=◌ ◌>>◌ check ◌&&◌ ◌||◌
+unfolding listing_of plan_moves fits moves_payload rounds_from file_of decimal ◌>>=◌ ◌>>◌ check ◌and◌ ◌or◌
 yard_a = refl

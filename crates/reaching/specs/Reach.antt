@@ -10,7 +10,7 @@ use Rattle.std.proofs.Math.ListN.{length, drop, length-take}
 use Rattle.std.proofs.Math.Dec.{leb}
 use Rattle.std.proofs.lemmas.List.{drop-append-le}
 use borrow.Author.Tests.{lt-ltb, le-ltb, le-leb, lt-leb, eq-eqb, ne_eqb}
-use Rattle.spec.specs.Outcome.{◌&&◌, member, index_of, same_list}
+use Rattle.spec.specs.Outcome.{◌and◌, member, index_of, same_list}
 use Rattle.spec.specs.Arrangement.{Arrangement, order, last_named}
 use Rattle.spec.specs.Hall.{room, lower_than, hall_can_leave, hall_can_enter, hall_can_end}
 use Rattle.spec.specs.State as meaning
@@ -133,18 +133,18 @@ same_ltb a b m n f g = at (dec_lt a b)
 
 -- too many robots below
 pub room_below : (size j t u : ℕ) → j < t → room size j t u ≡ false
-unfolding room ◌&&◌
-room_below size j t u h = rw (lt-leb _ _ h, room, ◌&&◌)
+unfolding room ◌and◌
+room_below size j t u h = rw (lt-leb _ _ h, room, ◌and◌)
 
 -- room below, and place j is one of the hall's: it goes by the robots above
 pub room_above : (size j t u : ℕ) → t ≤ j → j < size → ltb u (size - j) ≡ room size j t u
-unfolding room ◌&&◌
-room_above size j t u h k = rw (le-leb _ _ h, room, ◌&&◌) (same_ltb u (size - j) (j + u) size (λ q. omega arith) (λ q. omega arith))
+unfolding room ◌and◌
+room_above size j t u h k = rw (le-leb _ _ h, room, ◌and◌) (same_ltb u (size - j) (j + u) size (λ q. omega arith) (λ q. omega arith))
 
 -- place j is none of the hall's
 pub room_outside : (size j t u : ℕ) → t ≤ j → size ≤ j → room size j t u ≡ false
-unfolding room ◌&&◌
-room_outside size j t u h k = rw (le-leb _ _ h, room, ◌&&◌) (le-ltb (j + u) size (omega arith))
+unfolding room ◌and◌
+room_outside size j t u h k = rw (le-leb _ _ h, room, ◌and◌) (le-ltb (j + u) size (omega arith))
 
 -- ---- who is inside
 
@@ -171,33 +171,33 @@ module _ (a : Arrangement) (named t n : ℕ) (c : Counted a named t n) where
 
   -- a robot that is inside leaves where there is room for the others
   pub can_leave_room : (j size : ℕ) → size ≡ length a → t < n → room size j t (n - t - 1) ≡ hall_can_leave a named j
-  unfolding hall_can_leave ◌&&◌
+  unfolding hall_can_leave ◌and◌
   can_leave_room j size e h =
       let u : n - t - 1 ≡ length (order a) - suc (index_of named (order a)) = omega (arith, c.before, c.count) in
-      rw (inside h, hall_can_leave, ◌&&◌, e, u, c.before)
+      rw (inside h, hall_can_leave, ◌and◌, e, u, c.before)
 
   -- one that is not inside can't leave
   pub can_leave_none : (j : ℕ) → n ≤ t → false ≡ hall_can_leave a named j
-  unfolding hall_can_leave ◌&&◌
-  can_leave_none j h = rw (outside h, hall_can_leave, ◌&&◌)
+  unfolding hall_can_leave ◌and◌
+  can_leave_none j h = rw (outside h, hall_can_leave, ◌and◌)
 
   -- with none behind it, a robot enters where there is room above for all
   pub can_enter_first : (j size : ℕ) → size ≡ length a → named ≡ 255 → room size j 0 n ≡ hall_can_enter a j named
-  unfolding hall_can_enter lower_than ◌&&◌
-  can_enter_first j size e h = rw (eq-eqb _ _ h, hall_can_enter, lower_than, ◌&&◌, e, c.count) (ap (room (length a) j 0) (omega arith))
+  unfolding hall_can_enter lower_than ◌and◌
+  can_enter_first j size e h = rw (eq-eqb _ _ h, hall_can_enter, lower_than, ◌and◌, e, c.count) (ap (room (length a) j 0) (omega arith))
 
   -- with one behind it that is inside, where there is room for that one and those lower, and above for the rest
   pub can_enter_room : (j size : ℕ) → size ≡ length a → (named ≡ 255 → ⊥) → t < n → room size j (t + 1) (n - t - 1) ≡ hall_can_enter a j named
-  unfolding hall_can_enter lower_than ◌&&◌
+  unfolding hall_can_enter lower_than ◌and◌
   can_enter_room j size e h k =
       let u : n - t - 1 ≡ length (order a) - suc (index_of named (order a)) = omega (arith, c.before, c.count) in
       let v : t + 1 ≡ suc (index_of named (order a)) = omega (arith, c.before) in
-      rw (ne_eqb _ _ h, inside k, hall_can_enter, lower_than, ◌&&◌, e, u, v)
+      rw (ne_eqb _ _ h, inside k, hall_can_enter, lower_than, ◌and◌, e, u, v)
 
   -- not with one behind it that is not inside
   pub can_enter_none : (j : ℕ) → (named ≡ 255 → ⊥) → n ≤ t → false ≡ hall_can_enter a j named
-  unfolding hall_can_enter lower_than ◌&&◌
-  can_enter_none j h k = rw (ne_eqb _ _ h, outside k, hall_can_enter, lower_than, ◌&&◌)
+  unfolding hall_can_enter lower_than ◌and◌
+  can_enter_none j h k = rw (ne_eqb _ _ h, outside k, hall_can_enter, lower_than, ◌and◌)
 
 -- ---- the same robots in the same order
 

@@ -4,7 +4,7 @@ use Rattle.std.proofs.Common.{sym, ap₂, ◌∙◌, add-one, append_assoc, appe
 use Rattle.std.proofs.Math.Path.{ap}
 use native.Mathlib.Omega.{arith}
 use Rattle.std.proofs.lemmas.Bool.{lt-leb}
-use Rattle.spec.specs.Outcome.{Outcome, ok, refuse, ◌>>=◌, ◌>>◌, check, ◌&&◌}
+use Rattle.spec.specs.Outcome.{Outcome, ok, refuse, ◌>>=◌, ◌>>◌, check, ◌and◌}
 use Rattle.spec.specs.Layout.{Map, joined}
 use Rattle.spec.specs.Arrangement.{Move, mv}
 use Rattle.spec.specs.State.{State, robot_on, moved, moved_all}
@@ -106,9 +106,9 @@ after xs (refuse n i) = refuse n i
 -- the tests of move x in state s, as move i: 46, 47, 48
 unfoldable pub move_tests : Map → ℕ → State → Move → ℕ → Outcome (Unit {0})
 move_tests m k s x i = do
-  check (ltb x.robot k && ltb x.from m.size && ltb x.to m.size) 46 i
+  check (ltb x.robot k and ltb x.from m.size and ltb x.to m.size) 46 i
   check (joined m x.from x.to) 47 i
-  check (eqb (robot_on s x.from) x.robot && eqb (robot_on s x.to) 255) 48 i
+  check (eqb (robot_on s x.from) x.robot and eqb (robot_on s x.to) 255) 48 i
 
 four : (a b c d : Bool) (i : ℕ) (o : Outcome (List Move)) (x : Move)
     → (check a 45 i >> (check b 46 i >> (check c 47 i >> (check d 48 i >> (o >>= λ xs. ok (x ∷ xs))))))
@@ -129,8 +129,8 @@ pub moves_step : (m : Map) (k : ℕ) (p : List ℕ) (todo i : ℕ) (s : State)
 unfolding moves_from move_tests
 moves_step m k p todo i s =
     let x : Move = move_by (bytes_of p) i in
-    four (leb (2 + i * 3 + 3) (length p)) (ltb x.robot k && ltb x.from m.size && ltb x.to m.size) (joined m x.from x.to)
-    (eqb (robot_on s x.from) x.robot && eqb (robot_on s x.to) 255) i (moves_from m k p todo (i + 1) (moved s x)) x
+    four (leb (2 + i * 3 + 3) (length p)) (ltb x.robot k and ltb x.from m.size and ltb x.to m.size) (joined m x.from x.to)
+    (eqb (robot_on s x.from) x.robot and eqb (robot_on s x.to) 255) i (moves_from m k p todo (i + 1) (moved s x)) x
 
 after_after : (xs : List Move) (x : Move) (o : Outcome (List Move)) → after xs (after (x ∷ []) o) ≡ after (xs ++ (x ∷ [])) o
 unfolding after

@@ -9,7 +9,7 @@ use Rattle.std.proofs.Math.ListN.{get_or-eq_default}
 use Rattle.std.proofs.Math.Seq.{slice, slice-cons, slice_empty}
 use Rattle.std.specs.Int.Bits.{bit_or}
 use borrow.Author.Tests.{eq-eqb, ne_eqb, eqb-true, lt-ltb, le-ltb}
-use Rattle.spec.specs.Outcome.{◌&&◌, all, member, index_of}
+use Rattle.spec.specs.Outcome.{◌and◌, all, member, index_of}
 use Rattle.theory.specs.Basics.Tests.{of_true}
 use Rattle.adjacency.specs.Bit.{bit_of, bit_zero, bit_suc, set_same, set_other}
 use Rattle.adjacency.specs.Rows.{same_test, and_true, both}
@@ -37,18 +37,18 @@ module _ (o l : List ℕ) (m : ℕ) (e : length o ≡ m) where
 module _ (l o : List ℕ) (n m : ℕ) (e : length l ≡ n) (d : length o ≡ m) where
   -- not as many
   pub members_other : (n ≡ m → ⊥) → false ≡ same_members l o
-  unfolding same_members ◌&&◌
-  members_other h = sym (rw (ne_eqb (length l) (length o) (λ z. h (sym e ∙ z ∙ d)), same_members, ◌&&◌))
+  unfolding same_members ◌and◌
+  members_other h = sym (rw (ne_eqb (length l) (length o) (λ z. h (sym e ∙ z ∙ d)), same_members, ◌and◌))
 
   -- as many, but some robot is missing in the second
   pub members_not : n ≡ m → false ≡ all (λ r. member r o) l → false ≡ same_members l o
-  unfolding same_members ◌&&◌
-  members_not h b = sym (rw (eq-eqb (length l) (length o) (e ∙ h ∙ sym d), same_members, ◌&&◌, ← b))
+  unfolding same_members ◌and◌
+  members_not h b = sym (rw (eq-eqb (length l) (length o) (e ∙ h ∙ sym d), same_members, ◌and◌, ← b))
 
   -- none is missing there: the first decides
   pub members_same : n ≡ m → true ≡ all (λ r. member r o) l → all (λ r. member r l) o ≡ same_members l o
-  unfolding same_members ◌&&◌
-  members_same h b = sym (rw (eq-eqb (length l) (length o) (e ∙ h ∙ sym d), same_members, ◌&&◌, ← b))
+  unfolding same_members ◌and◌
+  members_same h b = sym (rw (eq-eqb (length l) (length o) (e ∙ h ∙ sym d), same_members, ◌and◌, ← b))
 
 -- ---- by marks
 
@@ -131,11 +131,11 @@ all_from p (y ∷ l) h = rw (h y (rw (eq-eqb y y refl, member)), all) (all_from 
 
 -- and the other way round
 all_to : (p : ℕ → Bool) (l : List ℕ) (x : ℕ) → all p l ≡ true → member x l ≡ true → p x ≡ true
-unfolding all member ◌&&◌
+unfolding all member ◌and◌
 all_to p [] x e m = absurd (of_true m)
 all_to p (y ∷ l) x e m = at (ℕ_discrete x y) (and_true (p y) (all p l) (as_and (p y) e)) (λ f g. all_to p l x f g)
   where
-    as_and : (b : Bool) → ◌≡◌ {A = Bool} (elim b [ true ↦ all p l | false ↦ false ]) true → (b && all p l) ≡ true
+    as_and : (b : Bool) → ◌≡◌ {A = Bool} (elim b [ true ↦ all p l | false ↦ false ]) true → (b and all p l) ≡ true
     as_and true q = q
     as_and false q = q
 

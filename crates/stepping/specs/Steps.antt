@@ -1,7 +1,7 @@
 -- A step by the tables and by the bytes of the file: what its moves need.
 use Rattle.std.specs.Prelude.{◌≡◌, refl, Bool, true, false, List, [], ◌∷◌, ℕ, suc, ◌+◌, ◌*◌, ◌/◌, ◌<◌, ◌≤◌, length, get_or, take, drop, eqb}
 use Rattle.std.proofs.Common.{sym, ap, ◌∙◌, arith, eqb→eq}
-use Rattle.spec.specs.Outcome.{ok, ◌&&◌}
+use Rattle.spec.specs.Outcome.{ok, ◌and◌}
 use Rattle.spec.specs.Layout.{zone_of, zone_at}
 use Rattle.spec.specs.Arrangement.{mv, cell, last_free}
 use Rattle.spec.specs.State.{State, robot_on, arrangement_of, across, moved_all}
@@ -36,9 +36,9 @@ numbered_empty (x ∷ list) j h = absurd (omega arith)
 -- a follow list that is met names robots
 met_numbered : (kind : ℕ) (s : State) (vs : List ℕ) (r j behind : ℕ) (list : List ℕ) → can_enter kind (arrangement_of s vs) r j behind list ≡ true
     → length list ≡ extra_of kind (arrangement_of s vs) → Numbered list j
-met_numbered kind s vs r j behind list c h = go (eqb kind 3 && last_free (arrangement_of s vs)) refl h
+met_numbered kind s vs r j behind list c h = go (eqb kind 3 and last_free (arrangement_of s vs)) refl h
   where
-    go : (b : Bool) → (eqb kind 3 && last_free (arrangement_of s vs)) ≡ b → length list ≡ elim b [ true ↦ length (arrangement_of s vs) | false ↦ 0 ] → Numbered list j
+    go : (b : Bool) → (eqb kind 3 and last_free (arrangement_of s vs)) ≡ b → length list ≡ elim b [ true ↦ length (arrangement_of s vs) | false ↦ 0 ] → Numbered list j
     go true e h =
         let t = of_true e in
         entered_numbered s vs r j behind list (clique_can_enter_lem kind (eqb→eq kind 3 (and_left _ _ t)) (arrangement_of s vs) r j behind list ∙ c) (true_of (and_right _ _ t))

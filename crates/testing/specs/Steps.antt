@@ -5,7 +5,7 @@ use Rattle.std.proofs.Math.Path.{ap₂}
 use Rattle.std.proofs.Math.Bool.{true, false}
 use Rattle.std.proofs.Math.Dec.{eqb}
 use Rattle.std.proofs.Math.Decide.{ℕ_discrete}
-use Rattle.spec.specs.Outcome.{ok, index_of, ◌&&◌}
+use Rattle.spec.specs.Outcome.{ok, index_of, ◌and◌}
 use Rattle.spec.specs.Layout.{Map, zone_of, zone_at}
 use Rattle.spec.specs.Arrangement.{Arrangement, full}
 use Rattle.spec.specs.ZoneKind.{can_leave, can_enter}
@@ -113,24 +113,24 @@ module _ (m : Map) (n k : ℕ) (kind first size listed zone place : List ℕ) (r
 
 -- how many bytes the follow list has of a step into a zone of `size` places with n robots
 unfoldable pub extra_on : ℕ → ℕ → ℕ → ℕ
-extra_on kind size n = elim (eqb kind 3 && eqb (suc n) size) [ true ↦ size | false ↦ 0 ]
+extra_on kind size n = elim (eqb kind 3 and eqb (suc n) size) [ true ↦ size | false ↦ 0 ]
 
 -- none but in a clique
 pub extra_other : (kind size n : ℕ) → (kind ≡ 3 → ⊥) → 0 ≡ extra_on kind size n
-unfolding extra_on ◌&&◌
+unfolding extra_on ◌and◌
 extra_other kind size n h = rw (ne_eqb kind 3 h, extra_on)
 
 -- one for each place where the robot fills it
 pub extra_filled : (kind size n : ℕ) → kind ≡ 3 → suc n ≡ size → size ≡ extra_on kind size n
-unfolding extra_on ◌&&◌
+unfolding extra_on ◌and◌
 extra_filled kind size n h e = rw (eq-eqb kind 3 h, eq-eqb (suc n) size e, extra_on)
 
 -- none where it does not
 pub extra_free : (kind size n : ℕ) → (suc n ≡ size → ⊥) → 0 ≡ extra_on kind size n
-unfolding extra_on ◌&&◌
+unfolding extra_on ◌and◌
 extra_free kind size n h = go (eqb kind 3)
   where
-    go : (b : Bool) → ◌≡◌ {A = ℕ} 0 (elim (b && eqb (suc n) size) [ true ↦ size | false ↦ 0 ])
+    go : (b : Bool) → ◌≡◌ {A = ℕ} 0 (elim (b and eqb (suc n) size) [ true ↦ size | false ↦ 0 ])
     go true = rw (ne_eqb (suc n) size h)
     go false = refl
 
@@ -141,7 +141,7 @@ extra_all kind size n e q h l = q ∙ sym (extra_filled kind size n h l)
 -- it is no longer than the zone
 pub extra_most : (kind size n : ℕ) → extra_on kind size n ≤ size
 unfolding extra_on
-extra_most kind size n = go (eqb kind 3 && eqb (suc n) size)
+extra_most kind size n = go (eqb kind 3 and eqb (suc n) size)
   where
     go : (b : Bool) → elim b [ true ↦ size | false ↦ 0 ] ≤ size
     go true = omega arith
@@ -159,7 +159,7 @@ module _ (kind : ℕ) (l : List ℕ) (b : Arrangement) (p : Proper b) (h : Holds
   -- the length of the follow list
   pub extra_is : extra_on kind size n ≡ extra_of kind b
   unfolding extra_on
-  extra_is = ap₂ {C = ℕ} (λ (q : Bool) (x : ℕ). elim (eqb kind 3 && q) [ true ↦ x | false ↦ 0 ]) (sym (last_is kind l b p h ∙ ap₂ {C = Bool} (λ (x y : ℕ). eqb (suc x) y) c e)) (sym e)
+  extra_is = ap₂ {C = ℕ} (λ (q : Bool) (x : ℕ). elim (eqb kind 3 and q) [ true ↦ x | false ↦ 0 ]) (sym (last_is kind l b p h ∙ ap₂ {C = Bool} (λ (x y : ℕ). eqb (suc x) y) c e)) (sym e)
 
   -- behind and follow list, by the list
   pub enters_by : (r j behind : ℕ) (list : List ℕ) → j < size → (n ≡ size → ⊥) → length list ≡ extra_on kind size n

@@ -5,7 +5,7 @@ use Rattle.std.proofs.Common.{ap, ◌∙◌, arith}
 use Rattle.std.proofs.Math.Bool.{not}
 use Rattle.std.proofs.Math.Dec.{ltb→lt}
 use borrow.Author.Tests.{le-leb, lt-leb, le-ltb, lt-ltb, eq-eqb, ne_eqb}
-use Rattle.spec.specs.Outcome.{Outcome, ok, refuse, ◌>>◌, check, ◌&&◌}
+use Rattle.spec.specs.Outcome.{Outcome, ok, refuse, ◌>>◌, check, ◌and◌}
 use Rattle.spec.specs.Layout.{Map, joined, zone_of}
 use Rattle.spec.specs.Arrangement.{Arrangement, full}
 use Rattle.spec.specs.ZoneKind.{can_leave, can_enter}
@@ -25,22 +25,22 @@ use Rattle.walking.specs.Held.{byte_is}
 module _ (n k r u v : ℕ) where
   -- the robot is none of k
   pub numbered_robot : k ≤ r → false ≡ numbered n k r u v
-  unfolding numbered ◌&&◌
+  unfolding numbered ◌and◌
   numbered_robot h = rw (le-ltb r k h)
 
   -- from is none of the vertices
   pub numbered_from : r < k → n ≤ u → false ≡ numbered n k r u v
-  unfolding numbered ◌&&◌
+  unfolding numbered ◌and◌
   numbered_from h l = rw (lt-ltb r k h, le-ltb u n l)
 
   -- to is none of the vertices
   pub numbered_to : r < k → u < n → n ≤ v → false ≡ numbered n k r u v
-  unfolding numbered ◌&&◌
+  unfolding numbered ◌and◌
   numbered_to h l x = rw (lt-ltb r k h, lt-ltb u n l, le-ltb v n x)
 
   -- all are there
   pub numbered_all : r < k → u < n → v < n → true ≡ numbered n k r u v
-  unfolding numbered ◌&&◌
+  unfolding numbered ◌and◌
   numbered_all h l x = rw (lt-ltb r k h, lt-ltb u n l, lt-ltb v n x)
 
   -- what that says
@@ -60,7 +60,7 @@ module _ (m : Map) (n k : ℕ) (kind first size listed zone place : List ℕ) (r
 
   -- there is no edge
   pub crosses_none : (u v : ℕ) → bit_at rows u v ≡ false → false ≡ crosses m u v
-  unfolding crosses ◌&&◌
+  unfolding crosses ◌and◌
   crosses_none u v e = rw (joined_is u v, e)
 
   module _ (u v : ℕ) (hu : u < n) (hv : v < n) (e : bit_at rows u v ≡ true) where
@@ -74,12 +74,12 @@ module _ (m : Map) (n k : ℕ) (kind first size listed zone place : List ℕ) (r
 
     -- it stays in the zone
     pub crosses_inside : get_or zone u 0 ≡ get_or zone v 0 → false ≡ crosses m u v
-    unfolding crosses ◌&&◌ not
+    unfolding crosses ◌and◌ not
     crosses_inside q = rw (joined_is u v, e, eq-eqb (zone_of m u) (zone_of m v) (sym zone_u ∙ q ∙ zone_v))
 
     -- it leads to another
     pub crosses_over : (get_or zone u 0 ≡ get_or zone v 0 → ⊥) → true ≡ crosses m u v
-    unfolding crosses ◌&&◌ not
+    unfolding crosses ◌and◌ not
     crosses_over q = rw (joined_is u v, e, ne_eqb (zone_of m u) (zone_of m v) (λ z. q (zone_u ∙ z ∙ sym zone_v)))
 
 -- ---- test by test

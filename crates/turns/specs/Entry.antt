@@ -4,7 +4,7 @@ use Rattle.std.proofs.Math.Path.{ap, sym}
 use Rattle.std.proofs.Common.{ap₂, ◌∙◌, ⊎_elim, add-one, arith, not-suc-le-zero, take-append-drop, drop-cons, take-suc, take_all, eq-eqb, ne_eqb}
 use Rattle.std.proofs.Math.Decide.{ℕ_discrete, dec_lt}
 use Rattle.std.proofs.Math.ListN.{get_or-eq_default}
-use Rattle.spec.specs.Outcome.{member, ◌&&◌}
+use Rattle.spec.specs.Outcome.{member, ◌and◌}
 use Rattle.spec.specs.Arrangement.{Arrangement, Move, cell, order, seek, apply_all, last_named}
 use Rattle.spec.specs.Ring.{wrap, frame, in_ring, run, shove, push, opened, ring_behind, entry_open, turn_place, turn_for, ring_enter}
 use Rattle.spec.specs.State.{State, cell_of, robot_on, arrangement_of, across}

@@ -3,7 +3,7 @@ use Rattle.std.specs.Prelude.{◌≡◌, refl, ◌≢◌, Bool, true, false, ℕ
 use Rattle.std.proofs.Common.{ap, ap₂, sym, ◌∙◌, arith, not-suc-le-zero, mul-le-mul, take-append-drop, eq-eqb, ne_eqb}
 use Rattle.std.proofs.Math.Decide.{ℕ_discrete, dec_lt}
 use Rattle.std.proofs.Math.ListN.{get_or-eq_default}
-use Rattle.spec.specs.Outcome.{◌&&◌}
+use Rattle.spec.specs.Outcome.{◌and◌}
 use Rattle.spec.specs.Arrangement.{Arrangement, Move, cell, order, seek, apply_all}
 use Rattle.spec.specs.Ring.{wrap, frame, in_ring, run, shove, push, opened, ring_behind, entry_open, turn_place, turn_for, ring_enter}
 use Rattle.spec.specs.State.{State, cell_of, robot_on, arrangement_of, across}
@@ -27,17 +27,17 @@ turn_at a j named = elim (entry_open a j named) [ true ↦ length a | false ↦ 
 
 -- the place is taken: its robot is pushed
 pub turn_taken : (a : Arrangement) (j named r : ℕ) → cell a j ≡ suc r → (entry_open a j named ≡ false) × (turn_place a j ≡ j)
-unfolding entry_open turn_place ◌&&◌
+unfolding entry_open turn_place ◌and◌
 turn_taken a j named r e =
     let d : eqb (cell a j) 0 ≡ false = ne_eqb (cell a j) 0 (λ q. omega arith) in
-    (ap (λ b. b && eqb (ring_behind a j) named) d, ap (λ (b : Bool). elim b as (λ b. ℕ) [ true ↦ seek (suc (ring_behind a j)) a | false ↦ j ]) d)
+    (ap (λ b. b and eqb (ring_behind a j) named) d, ap (λ (b : Bool). elim b as (λ b. ℕ) [ true ↦ seek (suc (ring_behind a j)) a | false ↦ j ]) d)
 
 -- the place is empty: the robot behind it decides
 pub turn_free : (a : Arrangement) (j named : ℕ) → cell a j ≡ 0 → (entry_open a j named ≡ eqb (ring_behind a j) named) × (turn_place a j ≡ seek (suc (ring_behind a j)) a)
-unfolding entry_open turn_place ◌&&◌
+unfolding entry_open turn_place ◌and◌
 turn_free a j named e =
     let d : eqb (cell a j) 0 ≡ true = eq-eqb (cell a j) 0 e in
-    (ap (λ b. b && eqb (ring_behind a j) named) d, ap (λ (b : Bool). elim b as (λ b. ℕ) [ true ↦ seek (suc (ring_behind a j)) a | false ↦ j ]) d)
+    (ap (λ b. b and eqb (ring_behind a j) named) d, ap (λ (b : Bool). elim b as (λ b. ℕ) [ true ↦ seek (suc (ring_behind a j)) a | false ↦ j ]) d)
 
 -- no push where the place is ready
 pub turn_open : (a : Arrangement) (j named : ℕ) → entry_open a j named ≡ true → turn_at a j named ≡ length a

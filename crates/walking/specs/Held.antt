@@ -1,7 +1,7 @@
 -- Bytes and parts of a payload that stands in a file.
 use Rattle.std.specs.Prelude.{◌≡◌, Bool, true, false, List, ℕ, ◌+◌, ◌-◌, ◌*◌, ◌/◌, ◌<◌, ◌≤◌, length, get_or, take, drop, eqb}
 use Rattle.std.proofs.Common.{sym, ◌∙◌, arith, length-drop, length-take-le, get_or-take, get_or-drop, ext_get_or}
-use Rattle.spec.specs.Outcome.{◌&&◌}
+use Rattle.spec.specs.Outcome.{◌and◌}
 use Rattle.spec.specs.Arrangement.{last_free}
 use Rattle.spec.specs.State.{State, arrangement_of}
 use Rattle.theory.specs.Zones.Crossing.{extra_of}
@@ -41,16 +41,16 @@ extra_is s vs true n e = e ∙ sym (arrangement_length s vs)
 extra_is s vs false n e = e
 
 -- the step fills a clique
-pub extra_filled : (kind : ℕ) (s : State) (vs : List ℕ) → (eqb kind 3 && last_free (arrangement_of s vs)) ≡ true → length vs ≡ extra_of kind (arrangement_of s vs)
-extra_filled kind s vs e = extra_is s vs (eqb kind 3 && last_free (arrangement_of s vs)) (length vs) (rw e)
+pub extra_filled : (kind : ℕ) (s : State) (vs : List ℕ) → (eqb kind 3 and last_free (arrangement_of s vs)) ≡ true → length vs ≡ extra_of kind (arrangement_of s vs)
+extra_filled kind s vs e = extra_is s vs (eqb kind 3 and last_free (arrangement_of s vs)) (length vs) (rw e)
 
 -- it does not
-pub extra_none : (kind : ℕ) (s : State) (vs : List ℕ) → (eqb kind 3 && last_free (arrangement_of s vs)) ≡ false → 0 ≡ extra_of kind (arrangement_of s vs)
-extra_none kind s vs e = extra_is s vs (eqb kind 3 && last_free (arrangement_of s vs)) 0 (rw e)
+pub extra_none : (kind : ℕ) (s : State) (vs : List ℕ) → (eqb kind 3 and last_free (arrangement_of s vs)) ≡ false → 0 ≡ extra_of kind (arrangement_of s vs)
+extra_none kind s vs e = extra_is s vs (eqb kind 3 and last_free (arrangement_of s vs)) 0 (rw e)
 
 -- it is no longer than the zone
 pub extra_most : (kind : ℕ) (s : State) (vs : List ℕ) → extra_of kind (arrangement_of s vs) ≤ length vs
-extra_most kind s vs = go (eqb kind 3 && last_free (arrangement_of s vs))
+extra_most kind s vs = go (eqb kind 3 and last_free (arrangement_of s vs))
   where
     go : (b : Bool) → elim b [ true ↦ length (arrangement_of s vs) | false ↦ 0 ] ≤ length vs
     go true = omega (arith, arrangement_length s vs)

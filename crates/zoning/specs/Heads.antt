@@ -2,7 +2,7 @@
 use Rattle.std.specs.Prelude.{ℕ, zero, suc, ◌+◌, ◌-◌, ◌≤◌, ◌<◌, ◌≡◌, refl, Bool, true, false, List, get_or, eqb, leb}
 use Rattle.std.proofs.Common.{ap, sym, leb→le, arith}
 use borrow.Author.Tests.{le-leb, lt-leb}
-use Rattle.spec.specs.Outcome.{ok, refuse, ◌>>=◌, ◌>>◌, check, ◌&&◌}
+use Rattle.spec.specs.Outcome.{ok, refuse, ◌>>=◌, ◌>>◌, check, ◌and◌}
 use Rattle.spec.specs.Layout.{Head, Counts, read_head, counts_of, least_size}
 use Rattle.theory.specs.Basics.Tests.{and_right}
 use Rattle.theory.specs.Basics.Outcomes.{ok_injective, passed, bound}
@@ -19,7 +19,7 @@ counts_in r = record { vertices = r.vertices; zones = r.zones }
 
 -- the least size of a kind; 0 where the number is no kind
 unfoldable pub least_of : ℕ → ℕ
-least_of kind = elim (leb 1 kind && leb kind 4) [ true ↦ least_size kind | false ↦ 0 ]
+least_of kind = elim (leb 1 kind and leb kind 4) [ true ↦ least_size kind | false ↦ 0 ]
 
 -- a kind has its least size
 pub least_at : (kind k : ℕ) → kind ≡ k → least_of k ≡ least_of kind
@@ -27,7 +27,7 @@ least_at kind k e = sym (ap least_of e)
 
 -- the other numbers have none
 pub least_none : (kind : ℕ) → (kind ≡ 1 → ⊥) → (kind ≡ 2 → ⊥) → (kind ≡ 3 → ⊥) → (kind ≡ 4 → ⊥) → 0 ≡ least_of kind
-unfolding least_of ◌&&◌
+unfolding least_of ◌and◌
 least_none zero a b c d = refl
 least_none (suc zero) a b c d = absurd (a refl)
 least_none (suc (suc zero)) a b c d = absurd (b refl)
@@ -48,21 +48,21 @@ least_some kind = go (eqb kind 4)
     go false = omega arith
 
 -- 0 says that the number is no kind
-no_kind : (kind : ℕ) → least_of kind ≡ 0 → (leb 1 kind && leb kind 4) ≡ false
+no_kind : (kind : ℕ) → least_of kind ≡ 0 → (leb 1 kind and leb kind 4) ≡ false
 unfolding least_of
-no_kind kind e = go (leb 1 kind && leb kind 4) e
+no_kind kind e = go (leb 1 kind and leb kind 4) e
   where
     go : (b : Bool) → ◌≡◌ {A = ℕ} (elim b [ true ↦ least_size kind | false ↦ 0 ]) 0 → b ≡ false
     go true e = absurd (omega (arith, least_some kind))
     go false e = refl
 
 -- another number says that it is one, and is its least size
-a_kind : (kind : ℕ) → (least_of kind ≡ 0 → ⊥) → ((leb 1 kind && leb kind 4) ≡ true) × (least_of kind ≡ least_size kind)
+a_kind : (kind : ℕ) → (least_of kind ≡ 0 → ⊥) → ((leb 1 kind and leb kind 4) ≡ true) × (least_of kind ≡ least_size kind)
 unfolding least_of
-a_kind kind h = go (leb 1 kind && leb kind 4) refl h
+a_kind kind h = go (leb 1 kind and leb kind 4) refl h
   where
-    go : (b : Bool) → (leb 1 kind && leb kind 4) ≡ b → (◌≡◌ {A = ℕ} (elim b [ true ↦ least_size kind | false ↦ 0 ]) 0 → ⊥)
-        → ((leb 1 kind && leb kind 4) ≡ true) × (◌≡◌ {A = ℕ} (elim b [ true ↦ least_size kind | false ↦ 0 ]) (least_size kind))
+    go : (b : Bool) → (leb 1 kind and leb kind 4) ≡ b → (◌≡◌ {A = ℕ} (elim b [ true ↦ least_size kind | false ↦ 0 ]) 0 → ⊥)
+        → ((leb 1 kind and leb kind 4) ≡ true) × (◌≡◌ {A = ℕ} (elim b [ true ↦ least_size kind | false ↦ 0 ]) (least_size kind))
     go true e h = (e, refl)
     go false e h = absurd (h refl)
 
@@ -99,29 +99,29 @@ module _ (file : List ℕ) (m : ℕ) where
   counts_short h = rw (counts_of, no_byte file m 15 0 h)
 
   module _ (n : ℕ) (is-n : n ≡ get_or file (place_of 0) 0) (there : 0 < m) where
-    pub counts_vertices : (leb 1 n && leb n 128) ≡ false → counts_of (held file m) ≡ refuse 16 0
+    pub counts_vertices : (leb 1 n and leb n 128) ≡ false → counts_of (held file m) ≡ refuse 16 0
     unfolding counts_of ◌>>=◌ ◌>>◌ check
     counts_vertices e = rw (counts_of, a_byte file m 15 0 there, ← is-n, e)
 
-    pub counts_end : (leb 1 n && leb n 128) ≡ true → m ≤ 1 → counts_of (held file m) ≡ refuse 15 1
+    pub counts_end : (leb 1 n and leb n 128) ≡ true → m ≤ 1 → counts_of (held file m) ≡ refuse 15 1
     unfolding counts_of ◌>>=◌ ◌>>◌ check
     counts_end e h = rw (counts_of, a_byte file m 15 0 there, ← is-n, e, no_byte file m 15 1 h)
 
-    module _ (z : ℕ) (is-z : z ≡ get_or file (place_of 1) 0) (behind : 1 < m) (fine : (leb 1 n && leb n 128) ≡ true) where
-      pub counts_zones : (leb 1 z && leb z 64) ≡ false → counts_of (held file m) ≡ refuse 16 1
+    module _ (z : ℕ) (is-z : z ≡ get_or file (place_of 1) 0) (behind : 1 < m) (fine : (leb 1 n and leb n 128) ≡ true) where
+      pub counts_zones : (leb 1 z and leb z 64) ≡ false → counts_of (held file m) ≡ refuse 16 1
       unfolding counts_of ◌>>=◌ ◌>>◌ check
       counts_zones e = rw (counts_of, a_byte file m 15 0 there, ← is-n, fine, a_byte file m 15 1 behind, ← is-z, e)
 
-      pub counts_good : (leb 1 z && leb z 64) ≡ true → counts_of (held file m) ≡ ok (record { vertices = n; zones = z })
+      pub counts_good : (leb 1 z and leb z 64) ≡ true → counts_of (held file m) ≡ ok (record { vertices = n; zones = z })
       unfolding counts_of ◌>>=◌ ◌>>◌ check
       counts_good e = rw (counts_of, a_byte file m 15 0 there, ← is-n, fine, a_byte file m 15 1 behind, ← is-z, e)
 
-pub counted_none : (n most : ℕ) → n < 1 → false ≡ (leb 1 n && leb n most)
-unfolding ◌&&◌
+pub counted_none : (n most : ℕ) → n < 1 → false ≡ (leb 1 n and leb n most)
+unfolding ◌and◌
 counted_none n most h = rw (lt-leb 1 n h)
 
-pub counted_some : (n most : ℕ) → 1 ≤ n → leb n most ≡ (leb 1 n && leb n most)
-unfolding ◌&&◌
+pub counted_some : (n most : ℕ) → 1 ≤ n → leb n most ≡ (leb 1 n and leb n most)
+unfolding ◌and◌
 counted_some n most h = rw (le-leb 1 n h)
 
 -- the counts are within their ranges

@@ -10,7 +10,7 @@ use Rattle.std.proofs.Math.Seq.{take-set-le}
 use Rattle.std.proofs.lemmas.List.{drop-set-add}
 use borrow.Author.Tests.{eqb-true, eqb-false, lt-ltb, le-ltb, ne_eqb}
 use native.Mathlib.Omega.{arith}
-use Rattle.spec.specs.Outcome.{ok, ◌>>=◌, ◌>>◌, check, member, index_of, refuse, ◌&&◌}
+use Rattle.spec.specs.Outcome.{ok, ◌>>=◌, ◌>>◌, check, member, index_of, refuse, ◌and◌}
 use Rattle.spec.specs.Layout.{read_vertices}
 use Rattle.theory.specs.Basics.Lists.{get_d_default}
 use Rattle.wire.specs.Payload.{place_of}
@@ -43,12 +43,12 @@ module _ (file : List ℕ) (m n : ℕ) (o : ℕ) (done : List ℕ) where
   vertices_short (suc todo) h g = rw (no_byte file m 15 o g)
 
   module _ (v : ℕ) (is_v : v ≡ get_or file (place_of o) 0) (there : o < m) where
-    vertices_bad : (todo : ℕ) → 0 < todo → (ltb v n && not (member v done)) ≡ false → read_vertices n (held file m) todo o done ≡ refuse 17 o
+    vertices_bad : (todo : ℕ) → 0 < todo → (ltb v n and not (member v done)) ≡ false → read_vertices n (held file m) todo o done ≡ refuse 17 o
     unfolding read_vertices ◌>>=◌ ◌>>◌ check
     vertices_bad zero h e = absurd (omega arith)
     vertices_bad (suc todo) h e = rw (a_byte file m 15 o there, ← is_v, e)
 
-    vertices_more : (todo : ℕ) → 0 < todo → (ltb v n && not (member v done)) ≡ true
+    vertices_more : (todo : ℕ) → 0 < todo → (ltb v n and not (member v done)) ≡ true
         → read_vertices n (held file m) todo o done ≡ read_vertices n (held file m) (todo - 1) (o + 1) (done ++ (v ∷ []))
     unfolding read_vertices ◌>>=◌ ◌>>◌ check
     vertices_more zero h e = absurd (omega arith)
@@ -145,7 +145,7 @@ module _ (file : List ℕ) (m n z size from : ℕ) (s t : Table) (k : ℕ) (g : 
       go false e = g.fresh w (sym (snoc_there w v (newly s t k) (eqb-false w v e)) ∙ h)
 
   pub going_more : k < size → from + k < m → v ≡ get_or file (place_of (from + k)) 0 → v < n → Going file m n z size from s (stepped s t v z k) (k + 1)
-  unfolding ◌&&◌
+  unfolding ◌and◌
   going_more h l e b = record {
     rep = record {
       marks = marks_more;
@@ -162,7 +162,7 @@ module _ (file : List ℕ) (m n z size from : ℕ) (s t : Table) (k : ℕ) (g : 
     rest = g.rest ∙ step;
   }
     where
-      fine : (ltb v n && not (member v (seen t))) ≡ true
+      fine : (ltb v n and not (member v (seen t))) ≡ true
       fine = rw (lt-ltb v n b, g.rep.marks v, empty)
 
       a1 : size - k - 1 ≡ size - (k + 1)
@@ -204,12 +204,12 @@ module _ (file : List ℕ) (m n z size from : ℕ) (s t : Table) (k : ℕ) (g : 
   module _ (v : ℕ) (is_v : v ≡ get_or file (place_of (from + k)) 0) (there : from + k < m) where
     -- the vertex is not below n
     pub going_over : n ≤ v → read_vertices n (held file m) size from (seen s) ≡ refuse 17 (from + k)
-    unfolding ◌&&◌
+    unfolding ◌and◌
     going_over b = g.rest ∙ vertices_bad file m n (from + k) (seen t) v is_v there (size - k) (omega arith) (rw (le-ltb v n b))
 
     -- the vertex is listed already
     pub going_twice : n ≤ 128 → v < n → (get_or t.zone v 0 ≡ 255 → ⊥) → read_vertices n (held file m) size from (seen s) ≡ refuse 17 (from + k)
-    unfolding ◌&&◌
+    unfolding ◌and◌
     going_twice few b w =
         let d : (get_or t.zone v 255 ≡ 255 → ⊥) = λ e. w (get_d_default t.zone v 0 255 (omega (arith, g.rep.long_zone)) ∙ e) in
         g.rest ∙ vertices_bad file m n (from + k) (seen t) v is_v there (size - k) (omega arith)

@@ -1,6 +1,6 @@
 // The counts of a map, and a zone's kind and size.
 ghost use Rattle.std.specs.Prelude.{◌≡◌, ◌≤◌, leb};
-ghost use Rattle.spec.specs.Outcome.{◌&&◌};
+ghost use Rattle.spec.specs.Outcome.{◌and◌};
 ghost use Rattle.spec.specs.Layout.{read_head, counts_of};
 ghost use Rattle.zoning.specs.Fault.{answered};
 ghost use Rattle.zoning.specs.Bytes.{held};
@@ -71,7 +71,7 @@ fn no_counts(fault: MapFault) -> CountsRead
 
 // Is a count from 1 to the most?
 fn counted(n: u8, most: u8) -> bool
-    ensures { result ≡ (leb 1 n && leb n most) }
+    ensures { result ≡ (leb 1 n and leb n most) }
 {
     if n < 1 {
         return false;

@@ -1,4 +1,4 @@
-use Rattle.spec.specs.Outcome.{all, ◌&&◌}
+use Rattle.spec.specs.Outcome.{all, ◌and◌}
 use lib.Dec.{eqb}
 use Rattle.checking.specs.Block.{zeros_first, zeros_more, zeros_none}
 use borrow.Author.Rules.{rules}

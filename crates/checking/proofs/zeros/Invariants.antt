@@ -1,5 +1,5 @@
 -- `zeros`: at each turn, that no bit is set so far and what is left is zeros is the test of the whole.
-use Rattle.spec.specs.Outcome.{all, ◌&&◌}
+use Rattle.spec.specs.Outcome.{all, ◌and◌}
 use lib.Dec.{eqb}
 use Rattle.checking.specs.Block.{zeros_first, zeros_more, zeros_none}
 use borrow.Author.Rules.{rules}
@@ -12,7 +12,7 @@ use Rattle.checking.proofs.zeros.Given as goal
 -- `zeros`: at each turn, that no bit is set so far and what is left is zeros is the test of the whole.
 
 abbrev pub invariant-loop-o : goal.invariant-loop-o
-invariant-loop-o l = (l.from ≤ l.o) × (l.o ≤ l.end) × ((eqb l.any 0 && all (λ x. eqb x 0) (take (l.end - l.o) (drop l.o l.file))) ≡ all (λ x. eqb x 0) (take (l.end - l.from) (drop l.from l.file)))
+invariant-loop-o l = (l.from ≤ l.o) × (l.o ≤ l.end) × ((eqb l.any 0 and all (λ x. eqb x 0) (take (l.end - l.o) (drop l.o l.file))) ≡ all (λ x. eqb x 0) (take (l.end - l.from) (drop l.from l.file)))
 
 abbrev pub decreases-loop-o : goal.decreases-loop-o
 decreases-loop-o l = l.end - l.o

@@ -1,6 +1,6 @@
 -- Terms of one zone: a configuration (A.4) is what legal moves inside the zone reach, and the tests of leaving, entering and ending say just that.
 use Rattle.std.specs.Prelude.{◌≡◌, ℕ, suc, ◌<◌, Bool, true, false, not, List, [], ◌∷◌, ◌↔◌, length, set, T, eqb, ltb}
-use Rattle.spec.specs.Outcome.{◌&&◌}
+use Rattle.spec.specs.Outcome.{◌and◌}
 use Rattle.spec.specs.Layout.{linked}
 use Rattle.spec.specs.Arrangement.{Arrangement, Move, cell, apply, full, last_free}
 use Rattle.spec.specs.ZoneKind.{behind_of, can_leave, can_enter, can_end}
@@ -8,7 +8,7 @@ use Rattle.spec.specs.State.{robots_of}
 
 -- are two places of a zone joined, whichever is first
 abbrev pub joined_places : ℕ → ℕ → ℕ → ℕ → Bool
-joined_places kind size i j = elim (ltb i j) [ true ↦ linked kind size i j | false ↦ ltb j i && linked kind size j i ]
+joined_places kind size i j = elim (ltb i j) [ true ↦ linked kind size i j | false ↦ ltb j i and linked kind size j i ]
 
 -- "A move is legal if its cart is at from, to is empty and they are joined": between places of one zone
 pub record Inside (kind : ℕ) (x : Move) (a : Arrangement) : Type 0 where
@@ -40,7 +40,7 @@ Named a = (i r : ℕ) → cell a i ≡ suc r → r < 255
 
 -- does a robot that enters fill a clique: then the step lists who stands where
 abbrev pub fills : ℕ → Arrangement → Bool
-fills kind a = eqb kind 3 && last_free a
+fills kind a = eqb kind 3 and last_free a
 
 -- "Leaving needs a reachable arrangement with the cart at from."
 unfoldable pub Leaving : Type 0

@@ -7,7 +7,7 @@ use mathlib.Core.List.{List, [], ◌∷◌}
 use native.Mathlib.Omega.{arith}
 use Rattle.std.proofs.Math.ListN.{get_or}
 use Rattle.std.proofs.Math.Dec.{lit<}
-use Rattle.spec.specs.Outcome.{ok, ◌>>=◌, ◌>>◌, check, ◌&&◌, ◌||◌, all, u16}
+use Rattle.spec.specs.Outcome.{ok, ◌>>=◌, ◌>>◌, check, ◌and◌, ◌or◌, all, u16}
 use Rattle.spec.specs.Wire.{file_of, payload_of}
 use Rattle.spec.specs.Arrangement.{Move, mv}
 use Rattle.spec.specs.State.{standing, moved_all, drawn_steps, plan_payload, move_bytes, moves_payload}
@@ -66,13 +66,13 @@ skips_later_out s =
     off r
   where
     answer : skips_later map_b placing_b plan_b 512 ≡ writes 512 (move_file (mv 0 0 1 ∷ []))
-    answer = unfold skips_later map_b placing_b plan_b file_of moves_payload step_one inside instance_of plan_moves fits answer_of ◌>>=◌ ◌>>◌ check ◌&&◌ ◌||◌ in refl
+    answer = unfold skips_later map_b placing_b plan_b file_of moves_payload step_one inside instance_of plan_moves fits answer_of ◌>>=◌ ◌>>◌ check ◌and◌ ◌or◌ in refl
 
     small : Within 128 (move_file (mv 0 0 1 ∷ []))
     small = unfold file_of moves_payload in lit< tt
 
     off : plan_b ≡ plan_file it_b (mv 0 0 1 ∷ []) → ⊥
-    off r = let z : ◌≡◌ {A = ℕ} 3 1 = unfold plan_b file_of plan_payload drawn_steps standing it_b ◌&&◌ in ap (λ l. get_or l 7 0) r in omega arith
+    off r = let z : ◌≡◌ {A = ℕ} 3 1 = unfold plan_b file_of plan_payload drawn_steps standing it_b ◌and◌ in ap (λ l. get_or l 7 0) r in omega arith
 
 -- ---- "writes an invented move count": demand 2
 
@@ -95,13 +95,13 @@ invented_out draw d t =
     count_true w.2 (ok_injective (sym r ∙ ap (payload_of 40 4 128) (sym w.4) ∙ read))
   where
     zero_number : (invented map_b placing_b plan_b 512).number ≡ 0
-    zero_number = unfold invented map_b placing_b plan_b file_of plan_moves fits answer_of u16 move_bytes ◌>>=◌ ◌>>◌ check ◌&&◌ ◌||◌ in refl
+    zero_number = unfold invented map_b placing_b plan_b file_of plan_moves fits answer_of u16 move_bytes ◌>>=◌ ◌>>◌ check ◌and◌ ◌or◌ in refl
 
     file : take (invented map_b placing_b plan_b 512).value (invented map_b placing_b plan_b 512).buffer ≡ file_of 4 invented_b
-    file = unfold invented invented_b map_b placing_b plan_b file_of plan_moves fits answer_of u16 move_bytes ◌>>=◌ ◌>>◌ check ◌&&◌ ◌||◌ in refl
+    file = unfold invented invented_b map_b placing_b plan_b file_of plan_moves fits answer_of u16 move_bytes ◌>>=◌ ◌>>◌ check ◌and◌ ◌or◌ in refl
 
     bytes : Bytes (file_of 4 invented_b)
     bytes = all_bytes (file_of 4 invented_b) (unfold file_of invented_b all in tt)
 
     read : payload_of 40 4 128 (file_of 4 invented_b) ≡ ok invented_b
-    read = unfold invented_b file_of payload_of ◌>>=◌ ◌>>◌ check ◌&&◌ ◌||◌ in refl
+    read = unfold invented_b file_of payload_of ◌>>=◌ ◌>>◌ check ◌and◌ ◌or◌ in refl

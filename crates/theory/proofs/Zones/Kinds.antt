@@ -2,7 +2,7 @@
 -- What it rests on stands in specs/Zones/Kinds.antt.
 use Rattle.std.specs.Prelude.{◌≡◌, Bool, not, List, ℕ, suc, ◌<◌, length, set, take, T, eqb}
 use Rattle.std.proofs.Common.{sym, ◌∙◌, arith}
-use Rattle.spec.specs.Outcome.{◌&&◌}
+use Rattle.spec.specs.Outcome.{◌and◌}
 use Rattle.spec.specs.Arrangement.{Arrangement, cell, order, full, last_free, last_named}
 use Rattle.spec.specs.Hall.{hall_can_leave, hall_leave, hall_can_enter, hall_enter, hall_can_end, hall_end}
 use Rattle.spec.specs.Clique.{clique_can_leave, clique_leave, clique_can_enter, clique_enter, clique_can_end, clique_end}
@@ -60,18 +60,18 @@ back_leave (hall i) a b r j d s e = rw (as_hall i (clique_can_leave a r j) (ring
 -- ---- entering
 
 -- no step fills a clique in a hall
-not_clique : {kind : ℕ} {A : Type 0} (q : Bool) → IsHall kind → T (eqb kind 3 && q) → A
-unfolding ◌&&◌
+not_clique : {kind : ℕ} {A : Type 0} (q : Bool) → IsHall kind → T (eqb kind 3 and q) → A
+unfolding ◌and◌
 not_clique {kind} {A} q i t = go (eqb? kind 3) t
   where
-    go : {b : Bool} → Eqb kind 3 b → T (b && q) → A
+    go : {b : Bool} → Eqb kind 3 b → T (b and q) → A
     go (same e) t = absurd (i.three e)
     go (other n) t = absurd t
 
 -- where a robot may enter the written moves make room
 reach_enter : {kind : ℕ} → KindOf kind → (a : Arrangement) (r j behind : ℕ) (list : List ℕ) → Distinct a → Named a → j < length a → length (order a) < length a
     → T (can_enter kind a r j behind list) → (b : Arrangement) × Runs kind (enter kind a j behind list) a b × Entered kind a r j behind list b
-unfolding can_enter enter behind_of ◌&&◌
+unfolding can_enter enter behind_of ◌and◌
 reach_enter clique a r j behind list d n h f t =
     let s = clique_enter_lem a r j behind list h d f t in
     (s.0, s.1, record { clear = s.2; named_behind = s.3; listed = s.4 })
@@ -92,7 +92,7 @@ reach_enter {kind} (hall i) a r j behind list d n h f t =
 -- where room can be made a robot may enter
 back_enter : {kind : ℕ} → KindOf kind → (a b : Arrangement) (r j behind : ℕ) (list : List ℕ) → Distinct a → Named a → j < length a
     → Reachable kind a b → cell b j ≡ 0 → behind_of kind b j ≡ behind → (T (fills kind a) → list ≡ robots_of (set b j (suc r))) → T (can_enter kind a r j behind list)
-unfolding can_enter behind_of ◌&&◌
+unfolding can_enter behind_of ◌and◌
 back_enter clique a b r j behind list d n h s e k l = clique_entered_lem a r j behind list h b s e k l
 back_enter ring a b r j behind list d n h s e k l = ring_entered_lem a b j behind h n s e k
 back_enter (hall i) a b r j behind list d n h s e k l =
@@ -127,7 +127,7 @@ on_leave (hall i) a b j r d s e f = hall_keeps_leave i a b j r d s e f
 on_enter : {kind : ℕ} → KindOf kind → (a b : Arrangement) (j r : ℕ) → Distinct a → Named a → j < length a → Reachable kind a b → cell a j ≡ 0 → cell b j ≡ 0
     → behind_of kind a j ≡ behind_of kind b j → ((i : ℕ) → cell a i ≡ suc r → ⊥) → (T (fills kind a) → set a j (suc r) ≡ set b j (suc r))
     → Reachable kind (set a j (suc r)) (set b j (suc r))
-unfolding behind_of ◌&&◌
+unfolding behind_of ◌and◌
 on_enter clique a b j r d n h s e f k q l = clique_keeps_enter a b j r d s h e f q l
 on_enter ring a b j r d n h s e f k q l = ring_keeps_enter a b j r d s n h e f k
 on_enter (hall i) a b j r d n h s e f k q l =

@@ -2,7 +2,7 @@
 use Rattle.std.specs.Prelude.{◌≡◌, refl, ◌≢◌, Bool, true, false, List, [], ◌∷◌, ◌++◌, ℕ, zero, suc, ◌+◌, ◌-◌, ◌*◌, ◌≤◌, ◌<◌, min, max, length, get_or, T, eqb, ltb, leb}
 use Rattle.std.proofs.Common.{sym, ap, ◌∙◌, zero-add, suc-add, arith, length-append, eqb→eq, leb→le}
 use Rattle.std.proofs.Math.Decide.{dec_le}
-use Rattle.spec.specs.Outcome.{ok, ◌>>◌, check, ◌&&◌}
+use Rattle.spec.specs.Outcome.{ok, ◌>>◌, check, ◌and◌}
 use Rattle.spec.specs.Layout.{Map, Zone, Edge, has_edge, joined, linked, shaped, read_edges, edges_of, map_of}
 use Rattle.theory.specs.Basics.Tests.{of_true, and_left, and_right}
 use Rattle.theory.specs.Basics.Outcomes.{ok_injective, passed, bound, seq_ok}
@@ -13,7 +13,7 @@ use Rattle.theory.specs.Maps.ZoneSize.{Different}
 
 -- is e the edge of a and b
 is_edge : ℕ → ℕ → Edge → Bool
-is_edge a b e = eqb e.a a && eqb e.b b
+is_edge a b e = eqb e.a a and eqb e.b b
 
 -- a list of edges with the first edge of a and b taken out
 without : ℕ → ℕ → List Edge → List Edge
@@ -138,7 +138,7 @@ read_length n p (suc todo) o least ds es e =
     let b = bound _ _ _ a.2 in
     one a.0 b.0 b.2 (λ least ds. read_length n p todo (o + 2) least ds es)
   where
-    one : (u v : ℕ) → (check (ltb u v && ltb v n && leb least (u * 256 + v)) 18 o >> read_edges n p todo (o + 2) (u * 256 + v + 1) (ds ++ (record { a = u; b = v } ∷ []))) ≡ ok es
+    one : (u v : ℕ) → (check (ltb u v and ltb v n and leb least (u * 256 + v)) 18 o >> read_edges n p todo (o + 2) (u * 256 + v + 1) (ds ++ (record { a = u; b = v } ∷ []))) ≡ ok es
         → ((least : ℕ) (ds : List Edge) → read_edges n p todo (o + 2) least ds ≡ ok es → length es ≡ length ds + todo) → length es ≡ length ds + suc todo
     one u v e ih = ih _ _ (passed _ _ _ _ _ e).1 ∙ omega (arith, length-append ds (record { a = u; b = v } ∷ []))
 

@@ -1,7 +1,7 @@
 -- Placings: what one that is read says.
 use Rattle.std.specs.Prelude.{◌≡◌, refl, not, List, [], ◌∷◌, ◌++◌, ℕ, zero, suc, ◌+◌, ◌≤◌, ◌<◌, length, ltb}
 use Rattle.std.proofs.Common.{sym, ap, ◌∙◌, append-nil, append_assoc, leb→le, ltb→lt, T_not}
-use Rattle.spec.specs.Outcome.{Outcome, ok, check, ◌&&◌, member, ◌>>◌, ◌>>=◌}
+use Rattle.spec.specs.Outcome.{Outcome, ok, check, ◌and◌, member, ◌>>◌, ◌>>=◌}
 use Rattle.spec.specs.Layout.{byte_at, Map, Placing, read_robots, placing_of}
 use Rattle.theory.specs.Basics.Tests.{and_left, and_right}
 use Rattle.theory.specs.Basics.Lists.{In}
@@ -32,9 +32,9 @@ pub record Robots (n todo : ℕ) (ss gs : List ℕ) (pl : Placing) : Type 0 wher
 robot_of : ℕ → List ℕ → ℕ → List ℕ → List ℕ → (List ℕ → List ℕ → Outcome Placing) → Outcome Placing
 robot_of n p o ss gs rest = do
   s ← byte_at 25 p o
-  check (ltb s n && not (member s ss)) 27 o
+  check (ltb s n and not (member s ss)) 27 o
   g ← byte_at 25 p (o + 1)
-  check (ltb g n && not (member g gs)) 28 (o + 1)
+  check (ltb g n and not (member g gs)) 28 (o + 1)
   rest (ss ++ (s ∷ [])) (gs ++ (g ∷ []))
 
 -- it is that

@@ -2,7 +2,7 @@
 use Rattle.std.specs.Prelude.{◌≡◌, refl, ◌≢◌, not, List, [], ◌∷◌, ◌++◌, ℕ, suc, ◌+◌, ◌-◌, ◌≤◌, ◌<◌, length, get_or, take, drop, T, eqb, ltb, leb}
 use Rattle.std.proofs.Common.{sym, ap, ◌∙◌, add-zero, add-one, arith, length-drop, take-append-drop, length-append, drop-cons, drop-drop, length-take-le, drop_at, take_at, get_or-drop, leb→le, ltb→lt, eqb→eq, T_not, le→leb, lt→ltb}
 use Rattle.std.proofs.Math.Dec.{not_T}
-use Rattle.spec.specs.Outcome.{Outcome, ok, check, ◌&&◌, ◌>>◌}
+use Rattle.spec.specs.Outcome.{Outcome, ok, check, ◌and◌, ◌>>◌}
 use Rattle.spec.specs.Layout.{Map, joined, zone_of, zone_at}
 use Rattle.spec.specs.Arrangement.{Move, mv, full}
 use Rattle.spec.specs.ZoneKind.{can_leave, leave, can_enter, enter}
@@ -71,8 +71,8 @@ drop_four p o e h =
 step_on : Map → ℕ → ℕ → ℕ → State → ℕ → ℕ → ℕ → ℕ → ℕ → List ℕ → Outcome Ran
 step_on m k i o s len r u v behind tail = do
   check (leb (o + 4) len) 35 i
-  check (ltb r k && ltb u m.size && ltb v m.size) 36 i
-  check (joined m u v && not (eqb (zone_of m u) (zone_of m v))) 37 i
+  check (ltb r k and ltb u m.size and ltb v m.size) 36 i
+  check (joined m u v and not (eqb (zone_of m u) (zone_of m v))) 37 i
   check (can_leave (kind_of m (zone_of m u)) (arrangement_in m s (zone_of m u)) r (place_of m u)) 38 i
   check (not (full (arrangement_in m s (zone_of m v)))) 39 i
   check (leb (o + 4 + extra_at m s v) len) 35 i

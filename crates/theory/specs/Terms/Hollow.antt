@@ -6,7 +6,7 @@ use mathlib.Core.List.{List, [], ◌∷◌, ◌++◌}
 use native.Mathlib.Omega.{arith}
 use Rattle.std.proofs.Math.ListN.{get_or}
 use Rattle.std.proofs.Math.Dec.{lit<}
-use Rattle.spec.specs.Outcome.{ok, refuse, ◌>>=◌, ◌>>◌, check, ◌&&◌, ◌||◌, u16}
+use Rattle.spec.specs.Outcome.{ok, refuse, ◌>>=◌, ◌>>◌, check, ◌and◌, ◌or◌, u16}
 use Rattle.spec.specs.Wire.{file_of}
 use Rattle.spec.specs.Layout.{Map, zone_of}
 use Rattle.spec.specs.Arrangement.{Move, mv}
@@ -45,10 +45,10 @@ writes_nothing_out draw t =
     off (ap (λ (x : Answer). get_or x.buffer 7 0) same)
   where
     first : writes_nothing map_b placing_b step_b 512 ≡ writes 512 []
-    first = unfold writes_nothing map_b placing_b step_b file_of plan_moves ◌>>=◌ ◌>>◌ check ◌&&◌ ◌||◌ in refl
+    first = unfold writes_nothing map_b placing_b step_b file_of plan_moves ◌>>=◌ ◌>>◌ check ◌and◌ ◌or◌ in refl
 
     second : writes_nothing map_b placing_b plan_b 512 ≡ writes 512 []
-    second = unfold writes_nothing map_b placing_b plan_b file_of plan_moves ◌>>=◌ ◌>>◌ check ◌&&◌ ◌||◌ in refl
+    second = unfold writes_nothing map_b placing_b plan_b file_of plan_moves ◌>>=◌ ◌>>◌ check ◌and◌ ◌or◌ in refl
 
     off : get_or (writes 512 step_b).buffer 7 0 ≡ get_or (writes 512 plan_b).buffer 7 0 → ⊥
     off e = let z : ◌≡◌ {A = ℕ} 1 3 = unfold step_b plan_b file_of in e in omega arith
@@ -71,7 +71,7 @@ skips_later a b c room = answer_of room (instance_of a b >>= λ it. plan_moves a
 
 -- in Yard B that is a legal list to the goal
 pub skips_later_reaches : Reaches it_b (mv 0 0 1 ∷ [])
-unfolding it_b standing moved_all legal_all ◌&&◌
+unfolding it_b standing moved_all legal_all ◌and◌
 skips_later_reaches = (tt, refl)
 
 -- ---- "writes an invented move count": demand 2
@@ -103,7 +103,7 @@ said_early resolve h t =
     omega arith
   where
     eleven : (judging [] [] []).number ≡ 11
-    eleven = unfold judging ◌>>=◌ ◌>>◌ check ◌&&◌ in refl
+    eleven = unfold judging ◌>>=◌ ◌>>◌ check ◌and◌ in refl
 
 -- so is this one
 pub early_out : (n : ℕ) → 60 ≤ n → Refuses judging (early n) → ⊥
@@ -130,7 +130,7 @@ early_short n h t =
     small = unfold file_of moves_payload in lit< tt
 
     cleared_b : (judging map_b placing_b plan_b).number ≡ 0
-    cleared_b = unfold judging map_b placing_b plan_b file_of ◌>>=◌ ◌>>◌ check ◌&&◌ ◌||◌ in refl
+    cleared_b = unfold judging map_b placing_b plan_b file_of ◌>>=◌ ◌>>◌ check ◌and◌ ◌or◌ in refl
 
     resolved_b : plan_moves map_b placing_b plan_b ≡ ok three
-    resolved_b = unfold plan_moves map_b placing_b plan_b file_of ◌>>=◌ ◌>>◌ check ◌&&◌ ◌||◌ in refl
+    resolved_b = unfold plan_moves map_b placing_b plan_b file_of ◌>>=◌ ◌>>◌ check ◌and◌ ◌or◌ in refl

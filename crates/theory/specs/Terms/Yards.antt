@@ -1,7 +1,7 @@
 -- Two yards, as files, for which the services compute.
 use Rattle.std.specs.Prelude.{◌≡◌, refl, Bool, true, false, List, [], ◌∷◌, ℕ, zero, suc, ◌<◌, get_or, T, ltb}
 use Rattle.std.proofs.Common.{sym, ◌∙◌, ltb→lt, lit<}
-use Rattle.spec.specs.Outcome.{ok, ◌>>=◌, ◌>>◌, check, ◌&&◌, ◌||◌, all}
+use Rattle.spec.specs.Outcome.{ok, ◌>>=◌, ◌>>◌, check, ◌and◌, ◌or◌, all}
 use Rattle.spec.specs.Wire.{file_of}
 use Rattle.spec.specs.Services.{Instance, instance_of, judging}
 use Rattle.spec.specs.Terms.{Bytes}
@@ -38,7 +38,7 @@ bytes_a = all_bytes plan_a tt
 
 -- and is cleared
 pub cleared_a : (judging map_a placing_a plan_a).number ≡ 0
-unfolding judging map_a placing_a plan_a file_of ◌>>=◌ ◌>>◌ check ◌&&◌ ◌||◌
+unfolding judging map_a placing_a plan_a file_of ◌>>=◌ ◌>>◌ check ◌and◌ ◌or◌
 cleared_a = refl
 
 -- a plan with no steps
@@ -89,7 +89,7 @@ it_b = record {
 
 -- they are read so
 read_b : instance_of map_b placing_b ≡ ok it_b
-unfolding instance_of map_b placing_b file_of it_b ◌>>=◌ ◌>>◌ check ◌&&◌ ◌||◌
+unfolding instance_of map_b placing_b file_of it_b ◌>>=◌ ◌>>◌ check ◌and◌ ◌or◌
 read_b = refl
 
 -- it is the only instance that these files give

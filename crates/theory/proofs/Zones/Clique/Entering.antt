@@ -6,7 +6,7 @@ use Rattle.std.proofs.Math.Bool.{true, false}
 use Rattle.std.proofs.Math.ListN.{length, set}
 use Rattle.std.proofs.lemmas.List.{length-map, set-get_or}
 use Rattle.std.proofs.Math.Dec.{eqb}
-use Rattle.spec.specs.Outcome.{◌&&◌}
+use Rattle.spec.specs.Outcome.{◌and◌}
 use Rattle.spec.specs.Arrangement.{Arrangement, order, cell, last_free}
 use Rattle.spec.specs.Terms.{Runs, Distinct}
 use Rattle.spec.specs.Clique.{named, same_robots, clique_to, make_room, clique_can_enter, clique_enter}
@@ -48,7 +48,7 @@ module _ (a : Arrangement) (r j behind : ℕ) (list : List ℕ) (h : j < length 
       g = set (named list) j 0
 
       named_right : Bool
-      named_right = eqb (cell (named list) j) (suc r) && same_robots a g
+      named_right = eqb (cell (named list) j) (suc r) and same_robots a g
 
       e : 255 ≡ behind
       e = sym (eqb→eq behind 255 (and_left (eqb behind 255) (elim (last_free a) [ true ↦ named_right | false ↦ true ]) t))

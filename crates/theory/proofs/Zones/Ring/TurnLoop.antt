@@ -4,7 +4,7 @@ use Rattle.std.specs.Prelude.{◌≡◌, refl, ◌⊎◌, not, [], ◌++◌, ◌
 use Rattle.std.proofs.Common.{ap, ◌∙◌, inl, inr, arith}
 use Prim.Native.Nat.{ℕ, zero, suc, ◌≤◌, ◌<◌}
 use Rattle.std.proofs.Math.ListN.{length}
-use Rattle.spec.specs.Outcome.{◌&&◌}
+use Rattle.spec.specs.Outcome.{◌and◌}
 use Rattle.spec.specs.Arrangement.{Arrangement, cell, order}
 use Rattle.spec.specs.Terms.{Runs, done, Distinct, Named}
 use Rattle.spec.specs.Ring.{ring_behind, entry_open, turn_for, push, turn_place, opened}
@@ -24,7 +24,7 @@ use Rattle.theory.specs.Zones.Ring.Entering.{Turns}
 pub turn_stays : (f : ℕ) (a : Arrangement) (j n : ℕ) → Open j n a → turn_for f a j n ≡ []
 unfolding turn_for entry_open
 turn_stays zero a j n o = refl
-turn_stays (suc f) a j n o = if_true (eqb (cell a j) 0 && eqb (ring_behind a j) n) [] _ (and_both (eqb (cell a j) 0) (eqb (ring_behind a j) n) (eq→eqb (cell a j) 0 o.0) (eq→eqb (ring_behind a j) n o.1))
+turn_stays (suc f) a j n o = if_true (eqb (cell a j) 0 and eqb (ring_behind a j) n) [] _ (and_both (eqb (cell a j) 0) (eqb (ring_behind a j) n) (eq→eqb (cell a j) 0 o.0) (eq→eqb (ring_behind a j) n o.1))
 
 -- otherwise one push is made
 turn_steps : (f : ℕ) (a b : Arrangement) (j n : ℕ) → T (not (entry_open a j n)) → Runs 4 (push a (turn_place a j)) a b → turn_for (suc f) a j n ≡ push a (turn_place a j) ++ turn_for f b j n

@@ -5,7 +5,7 @@ use Rattle.std.proofs.Math.Bool.{true, false}
 use Rattle.std.proofs.Math.ListN.{length, set}
 use Rattle.std.proofs.lemmas.List.{set-get_or}
 use Rattle.std.proofs.Math.Dec.{eqb}
-use Rattle.spec.specs.Outcome.{◌&&◌}
+use Rattle.spec.specs.Outcome.{◌and◌}
 use Rattle.spec.specs.Arrangement.{Arrangement, order, cell, last_free}
 use Rattle.spec.specs.Terms.{Reachable}
 use Rattle.spec.specs.Clique.{named, same_robots, clique_can_enter}
@@ -37,8 +37,8 @@ module _ (a : Arrangement) (r j behind : ℕ) (list : List ℕ) (h : j < length 
   pub clique_entered_lem : (b : Arrangement) → Reachable 3 a b → cell b j ≡ 0 → 255 ≡ behind → (T (last_free a) → list ≡ robots_of (set b j (suc r))) → T (clique_can_enter a r j behind list)
   unfolding clique_can_enter last_free
   clique_entered_lem b s e k n =
-      and_both (eqb behind 255) (elim (last_free a) [ true ↦ eqb (cell (named list) j) (suc r) && same_robots a (set (named list) j 0) | false ↦ true ])
-      (eq→eqb behind 255 (sym k)) (if_T (last_free a) (eqb (cell (named list) j) (suc r) && same_robots a (set (named list) j 0)) true filled (λ t. tt))
+      and_both (eqb behind 255) (elim (last_free a) [ true ↦ eqb (cell (named list) j) (suc r) and same_robots a (set (named list) j 0) | false ↦ true ])
+      (eq→eqb behind 255 (sym k)) (if_T (last_free a) (eqb (cell (named list) j) (suc r) and same_robots a (set (named list) j 0)) true filled (λ t. tt))
     where
       h' : j < length b
       h' = omega (arith, runs_length s.1)
@@ -55,7 +55,7 @@ module _ (a : Arrangement) (r j behind : ℕ) (list : List ℕ) (h : j < length 
       without : T (last_free a) → set (named list) j 0 ≡ b
       without t = ap (λ x. set x j 0) (is_named t) ∙ set-set b j (suc r) 0 ∙ (rw (← e) (set-get_or b j 0))
 
-      filled : T (last_free a) → T (eqb (cell (named list) j) (suc r) && same_robots a (set (named list) j 0))
+      filled : T (last_free a) → T (eqb (cell (named list) j) (suc r) and same_robots a (set (named list) j 0))
       filled t = and_both (eqb (cell (named list) j) (suc r)) (same_robots a (set (named list) j 0))
           (eq→eqb (cell (named list) j) (suc r) (ap (λ x. cell x j) (is_named t) ∙ get_or-set_same b j (suc r) 0 h'))
           (rw (without t) (robots_same a b (runs_robots s.1)))

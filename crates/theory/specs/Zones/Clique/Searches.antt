@@ -2,7 +2,7 @@
 use Rattle.std.specs.Prelude.{◌≡◌, refl, ◌≢◌, Bool, true, false, ◌∷◌, [], ℕ, suc, ◌<◌, ◌≤◌, zero, min, length, T}
 use Rattle.std.proofs.Common.{◌∙◌, suc-le-suc, arith}
 use Rattle.std.proofs.Math.Decide.{dec_le}
-use Rattle.spec.specs.Outcome.{◌&&◌}
+use Rattle.spec.specs.Outcome.{◌and◌}
 use Rattle.spec.specs.Layout.{linked}
 use Rattle.spec.specs.Arrangement.{Arrangement, mv, cell, lesser}
 use Rattle.spec.specs.Terms.{joined_places, Inside}
@@ -11,10 +11,10 @@ use Rattle.theory.specs.Basics.Tests.{Ltb, less, more, ltb?, eqb_false, Eqb, sam
 
 -- any two places are joined
 pub near_other : (m p q : ℕ) → p ≢ q → T (joined_places 3 m p q)
-unfolding linked ◌&&◌
+unfolding linked ◌and◌
 near_other m p q n = go (ltb? p q) (ltb? q p)
   where
-    go : {b c : Bool} → Ltb p q b → Ltb q p c → T (elim b [ true ↦ linked 3 m p q | false ↦ c && linked 3 m q p ])
+    go : {b c : Bool} → Ltb p q b → Ltb q p c → T (elim b [ true ↦ linked 3 m p q | false ↦ c and linked 3 m q p ])
     go (less h) d = tt
     go (more h) (less k) = tt
     go (more h) (more k) = absurd (n (omega arith))

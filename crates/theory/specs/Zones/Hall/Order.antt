@@ -1,7 +1,7 @@
 -- Halls: a move keeps the order of the robots.
 use Rattle.std.specs.Prelude.{◌≡◌, refl, ◌≢◌, Bool, true, false, [], ◌∷◌, List, ℕ, zero, suc, ◌<◌, ◌+◌, length, set, T, eqb}
 use Rattle.std.proofs.Common.{ap, ◌∙◌, sym, inl, inr, le_of_suc-le-suc, arith, eqb→eq}
-use Rattle.spec.specs.Outcome.{◌&&◌, ◌||◌}
+use Rattle.spec.specs.Outcome.{◌and◌, ◌or◌}
 use Rattle.spec.specs.Layout.{linked}
 use Rattle.spec.specs.Arrangement.{Arrangement, cell, order, Move, apply}
 use Rattle.spec.specs.Terms.{joined_places, Inside, Runs, done, ◌then◌}
@@ -38,13 +38,13 @@ pub record IsHall (kind : ℕ) : Type 0 where
 
 -- in a hall only places side by side are joined
 pub out_line : {kind : ℕ} → IsHall kind → (m p q : ℕ) → T (joined_places kind m p q) → Next p q
-unfolding linked ◌&&◌
+unfolding linked ◌and◌
 out_line {kind} i m p q h = go (eqb? kind 3) (eqb? kind 4) (ltb? p q) (ltb? q p) h
   where
     go : {a b c d : Bool} → Eqb kind 3 a → Eqb kind 4 b → Ltb p q c → Ltb q p d
         → T (elim c [
-          | true ↦ elim a [ true ↦ true | false ↦ elim b [ true ↦ eqb q (p + 1) || (eqb p 0 && eqb (q + 1) m) | false ↦ eqb q (p + 1) ] ]
-          | false ↦ d && elim a [ true ↦ true | false ↦ elim b [ true ↦ eqb p (q + 1) || (eqb q 0 && eqb (p + 1) m) | false ↦ eqb p (q + 1) ] ]
+          | true ↦ elim a [ true ↦ true | false ↦ elim b [ true ↦ eqb q (p + 1) or (eqb p 0 and eqb (q + 1) m) | false ↦ eqb q (p + 1) ] ]
+          | false ↦ d and elim a [ true ↦ true | false ↦ elim b [ true ↦ eqb p (q + 1) or (eqb q 0 and eqb (p + 1) m) | false ↦ eqb p (q + 1) ] ]
         ])
         → Next p q
     go (same e) b c d h = absurd (i.three e)

@@ -1,7 +1,7 @@
 -- Rings: a move keeps the order round.
 use Rattle.std.specs.Prelude.{◌≡◌, refl, ◌⊎◌, ◌≢◌, Bool, true, false, [], ◌∷◌, ◌++◌, List, ℕ, suc, ◌+◌, ◌<◌, zero, length, set, take, T, eqb, ltb}
 use Rattle.std.proofs.Common.{◌∙◌, ap, inl, inr, arith, drop_of_length-le, eqb→eq}
-use Rattle.spec.specs.Outcome.{◌&&◌, ◌||◌}
+use Rattle.spec.specs.Outcome.{◌and◌, ◌or◌}
 use Rattle.spec.specs.Layout.{linked}
 use Rattle.spec.specs.Arrangement.{Arrangement, mv, cell, order, Move, apply}
 use Rattle.spec.specs.Terms.{joined_places, Inside, Runs, done, ◌then◌}
@@ -21,10 +21,10 @@ pub data Round (m : ℕ) : ℕ → ℕ → Type 0 where
 
 -- joined places are so
 pub round_near : (m p q : ℕ) → T (joined_places 4 m p q) → Round m p q
-unfolding linked ◌&&◌ ◌||◌
+unfolding linked ◌and◌ ◌or◌
 round_near m p q h = go (ltb? p q) (ltb? q p) h
   where
-    up : (p q : ℕ) {d : Bool} → Eqb q (p + 1) d → T (d || (eqb p 0 && eqb (q + 1) m)) → (q ≡ suc p) ⊎ ((p ≡ 0) × (suc q ≡ m))
+    up : (p q : ℕ) {d : Bool} → Eqb q (p + 1) d → T (d or (eqb p 0 and eqb (q + 1) m)) → (q ≡ suc p) ⊎ ((p ≡ 0) × (suc q ≡ m))
     up p q (same e) h = inl (e ∙ omega arith)
     up p q (other n) h = inr (eqb→eq p 0 (and_left (eqb p 0) (eqb (q + 1) m) h), omega (arith, eqb→eq (q + 1) m (and_right (eqb p 0) (eqb (q + 1) m) h)))
 
@@ -36,17 +36,17 @@ round_near m p q h = go (ltb? p q) (ltb? q p) h
     fall (inl e) = line (inr e)
     fall (inr s) = over s.1 s.0
 
-    go : {b c : Bool} → Ltb p q b → Ltb q p c → T (elim b [ true ↦ eqb q (p + 1) || (eqb p 0 && eqb (q + 1) m) | false ↦ c && (eqb p (q + 1) || (eqb q 0 && eqb (p + 1) m)) ]) → Round m p q
+    go : {b c : Bool} → Ltb p q b → Ltb q p c → T (elim b [ true ↦ eqb q (p + 1) or (eqb p 0 and eqb (q + 1) m) | false ↦ c and (eqb p (q + 1) or (eqb q 0 and eqb (p + 1) m)) ]) → Round m p q
     go (less i) d h = rise (up p q (eqb? q (p + 1)) h)
     go (more i) (less k) h = fall (up q p (eqb? p (q + 1)) h)
     go (more i) (more k) h = absurd h
 
 -- the two ends are joined
 ends_joined : (m q : ℕ) → 0 < q → suc q ≡ m → T (joined_places 4 m 0 q)
-unfolding linked ◌||◌ ◌&&◌
+unfolding linked ◌or◌ ◌and◌
 ends_joined m q h e = go (ltb? 0 q) (eqb? q (0 + 1)) (eqb? (q + 1) m)
   where
-    go : {b c d : Bool} → Ltb 0 q b → Eqb q (0 + 1) c → Eqb (q + 1) m d → T (elim b [ true ↦ c || d | false ↦ ltb q 0 && linked 4 m q 0 ])
+    go : {b c d : Bool} → Ltb 0 q b → Eqb q (0 + 1) c → Eqb (q + 1) m d → T (elim b [ true ↦ c or d | false ↦ ltb q 0 and linked 4 m q 0 ])
     go (less h) (same e) f = tt
     go (less h) (other n) (same f) = tt
     go (less h) (other n) (other f) = absurd (f (omega arith))
