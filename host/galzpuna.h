@@ -1,6 +1,6 @@
 /*
  * Galzpuna's services for a C host. Link target/staticlib/libgalzpuna.a,
- * which `rt staticlib galzpuna` writes (x86-64 Linux).
+ * which tools/staticlib writes (x86-64 Linux).
  *
  * Document 01 has the formats and the meanings. Its cart is a robot here, its
  * point a vertex, its track an edge. Files are whole blocks of 512 bytes.

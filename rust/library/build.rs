@@ -17,7 +17,7 @@ fn main() -> ExitCode {
     println!("cargo::rerun-if-changed={}", archive.display());
     if !archive.exists() {
         eprintln!("The proved library is missing: {}", archive.display());
-        eprintln!("Write it: cd {} && rt staticlib galzpuna", root.display());
+        eprintln!("Write it: {}/tools/staticlib", root.display());
         return ExitCode::FAILURE;
     }
     println!("cargo::rustc-link-search=native={}", folder.display());

@@ -1,5 +1,5 @@
 -- Bit i of a number, and the laws of setting one.
-use Rattle.std.specs.Prelude.{◌≡◌, refl, ℕ, zero, suc, ◌+◌, ◌-◌, ◌/◌, ◌%◌, ◌^◌, ◌<◌}
+use Rattle.std.specs.Prelude.{◌≡◌, refl, ℕ, zero, suc, ◌/◌, ◌%◌, ◌^◌, ◌<◌}
 use Rattle.std.proofs.Common.{ap, ◌∙◌, pow-suc, div-one, mul-div_cancel, mod-lt, zero-lt-suc, arith}
 use Rattle.std.proofs.Math.Nat.{pow-succ', div-div-eq-div-mul, zero-div, mul-mod_left}
 use Rattle.std.specs.Int.Bits.{bit_or, or_zero_r}

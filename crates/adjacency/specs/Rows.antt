@@ -1,5 +1,5 @@
 -- Rows of bits, and what they say of a list of edges.
-use Rattle.std.specs.Prelude.{ℕ, zero, suc, ◌+◌, ◌-◌, ◌/◌, ◌%◌, ◌^◌, ◌≤◌, ◌<◌, min, max, ◌≡◌, ◌⊎◌, Bool, not, List, [], ◌∷◌, ◌++◌, length, get_or, set, replicate, ltb}
+use Rattle.std.specs.Prelude.{ℕ, zero, suc, ◌/◌, ◌%◌, ◌^◌, ◌≤◌, ◌<◌, min, max, ◌≡◌, ◌⊎◌, Bool, List, [], ◌∷◌, ◌++◌, length, get_or, set, replicate, ltb}
 use Rattle.std.proofs.Math.Path.{refl, ap, ap₂}
 use Rattle.std.proofs.Common.{sym, ◌∙◌, inl, inr, length-set, get_or-set_same, get_or-set_other, arith}
 use Rattle.std.proofs.Math.Bool.{true, false}
@@ -10,7 +10,7 @@ use Rattle.std.specs.Int.Bits.{bit_or}
 use borrow.Author.Tests.{eq-eqb, eqb-true, eqb-false, ltb-true, ltb-false, lt-ltb, le-ltb}
 use Rattle.std.proofs.Math.Nat.{zero-div}
 use Rattle.spec.specs.Outcome.{◌and◌, ◌or◌}
-use Rattle.spec.specs.Layout.{Edge, has_edge, joined}
+use Rattle.spec.specs.Layout.{Edge, has_edge}
 use Rattle.adjacency.specs.Bit.{bit_of, set_same, set_other}
 
 -- bit b of row a

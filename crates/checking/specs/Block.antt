@@ -1,6 +1,6 @@
 -- A block at an offset of a file.
 use Rattle.std.specs.Prelude.{ℕ, zero, suc, ◌+◌, ◌-◌, ◌*◌, ◌≤◌, ◌<◌, ◌≡◌, refl, Bool, true, false, List, ◌∷◌, length, get_or, take, drop, eqb, leb}
-use Rattle.std.proofs.Common.{ap, sym, ◌∙◌, drop-cons, drop-drop, take-take, get_or-drop, get_or-take, leb-true, eqb-true, ne_eqb, add-one, arith}
+use Rattle.std.proofs.Common.{ap, ◌∙◌, drop-cons, drop-drop, take-take, get_or-drop, get_or-take, leb-true, eqb-true, ne_eqb, add-one, arith}
 use Rattle.std.specs.Int.Bits.{bit_or, or_zero_l, or_add_and}
 use Rattle.std.proofs.lemmas.Nat.{and_le_r}
 use Rattle.spec.specs.Outcome.{all, ◌and◌}

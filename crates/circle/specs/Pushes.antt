@@ -1,10 +1,10 @@
 -- The push of a robot in a ring, and pushes one after the other.
 use Rattle.std.specs.Prelude.{◌≡◌, refl, ◌≢◌, ℕ, zero, suc, ◌+◌, ◌-◌, ◌<◌, ◌≤◌, length, get_or, set, drop}
 use Rattle.std.proofs.Math.Path.{ap}
-use Rattle.std.proofs.Common.{ap₂, sym, ◌∙◌, add-one, arith, not-suc-le-zero, drop_of_length-le, drop-cons, get_or-set_other}
+use Rattle.std.proofs.Common.{sym, ◌∙◌, add-one, arith, not-suc-le-zero, drop_of_length-le, drop-cons, get_or-set_other}
 use mathlib.Core.List.{List, [], ◌∷◌, ◌++◌, map, map-append}
 use Rattle.spec.specs.Arrangement.{Arrangement, Move, mv, apply_all, seek}
-use Rattle.spec.specs.Ring.{wrap, frame, in_ring, run, shove, push, pushes, ahead, push_to, ring_leave}
+use Rattle.spec.specs.Ring.{wrap, frame, in_ring, shove, push, pushes, ahead, push_to, ring_leave}
 use Rattle.spec.specs.State.{State, robot_on, moved, moved_all, arrangement_of, across_move, across}
 use Rattle.motion.specs.Tables.{on_vertices}
 use Rattle.motion.specs.World.{World, made, made_all, made_none, robots_length}

@@ -1,6 +1,6 @@
 -- A ring read from one of its places on, and the run of taken places there.
 use Rattle.std.specs.Prelude.{◌≡◌, refl, ◌≢◌, ℕ, zero, suc, ◌+◌, ◌-◌, ◌<◌, ◌≤◌, List, [], ◌∷◌, ◌++◌, length, get_or, take, drop}
-use Rattle.std.proofs.Common.{ap, ap₂, sym, ◌∙◌, ⊎_elim, add-one, arith, not-suc-le-zero, length-append, length-drop, drop_of_length-le, drop-cons, get_or-append-add, get_or-take, get_or-drop, length-take-le}
+use Rattle.std.proofs.Common.{ap, sym, ◌∙◌, ⊎_elim, add-one, arith, not-suc-le-zero, length-append, length-drop, drop_of_length-le, drop-cons, get_or-append-add, get_or-take, get_or-drop, length-take-le}
 use Rattle.std.proofs.Math.ListN.{get_or-append}
 use Rattle.spec.specs.Arrangement.{Arrangement}
 use Rattle.spec.specs.Ring.{wrap, frame, run}

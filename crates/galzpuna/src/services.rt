@@ -1,4 +1,4 @@
-// The exported services. Slices must not overlap the answer buffer: that is the host's duty.
+// The services, which crates/galzpuna_c gives to C under the same names.
 ghost use Rattle.std.specs.Prelude.{◌≡◌, ◌<◌, length, []};
 ghost use Rattle.spec.specs.Services.{judging, resolving, drawing, rounds};
 ghost use Rattle.opening.specs.Opened.{MapFiled};
@@ -49,8 +49,7 @@ fn draw_checked(map: &[u8], len: usize, placing: &[u8], moves: &[u8], out: &mut 
 }
 
 // Drawing: the plan of a move list that is legal and reaches the goals.
-#[unsafe(no_mangle)]
-pub extern "C" fn galzpuna_draw(map: &[u8], placing: &[u8], moves: &[u8], out: &mut [u8]) -> Answer
+pub fn galzpuna_draw(map: &[u8], placing: &[u8], moves: &[u8], out: &mut [u8]) -> Answer
     ensures { answered result out.new ≡ drawing map.now placing.now moves.now (length out.old) }
 {
     let filed = checking::check_file(map, 1, 9);
@@ -84,13 +83,7 @@ fn rounds_checked(map: &[u8], len: usize, placing: &[u8], moves: &[u8], out: &mu
 }
 
 // Rounds: the round sheet of a move list that is legal and reaches the goals.
-#[unsafe(no_mangle)]
-pub extern "C" fn galzpuna_rounds(
-    map: &[u8],
-    placing: &[u8],
-    moves: &[u8],
-    out: &mut [u8],
-) -> Answer
+pub fn galzpuna_rounds(map: &[u8], placing: &[u8], moves: &[u8], out: &mut [u8]) -> Answer
     ensures { answered result out.new ≡ rounds map.now placing.now moves.now (length out.old) }
 {
     let filed = checking::check_file(map, 1, 9);
@@ -103,8 +96,7 @@ pub extern "C" fn galzpuna_rounds(
 }
 
 // Judging: is the plan cleared? Nothing is written.
-#[unsafe(no_mangle)]
-pub extern "C" fn galzpuna_judge(map: &[u8], placing: &[u8], plan: &[u8]) -> Answer
+pub fn galzpuna_judge(map: &[u8], placing: &[u8], plan: &[u8]) -> Answer
     ensures { answered result [] ≡ judging map.now placing.now plan.now }
 {
     let f = judge_files(map, placing, plan);
@@ -123,13 +115,7 @@ pub extern "C" fn galzpuna_judge(map: &[u8], placing: &[u8], plan: &[u8]) -> Ans
 }
 
 // Resolving: the move list of a plan that is cleared.
-#[unsafe(no_mangle)]
-pub extern "C" fn galzpuna_resolve(
-    map: &[u8],
-    placing: &[u8],
-    plan: &[u8],
-    out: &mut [u8],
-) -> Answer
+pub fn galzpuna_resolve(map: &[u8], placing: &[u8], plan: &[u8], out: &mut [u8]) -> Answer
     ensures { answered result out.new ≡ resolving map.now placing.now plan.now (length out.old) }
 {
     let o = resolve_files(map, placing, plan, out);

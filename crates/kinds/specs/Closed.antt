@@ -5,7 +5,7 @@ use Rattle.std.proofs.Math.Bool.{true, false, not}
 use Rattle.std.proofs.Math.ListN.{length}
 use Rattle.std.proofs.Math.Dec.{eqb}
 use Rattle.std.proofs.Math.Nat.{min_comm, max_comm}
-use Rattle.spec.specs.Outcome.{◌and◌, ◌or◌, all, member, below, index_of}
+use Rattle.spec.specs.Outcome.{◌and◌, ◌or◌, all, member, index_of}
 use Rattle.spec.specs.Layout.{Edge, Map, has_edge, same_bool, closed}
 use Rattle.theory.specs.Basics.Tests.{below_at, true_of, of_true}
 use Rattle.theory.specs.Basics.Lists.{index_in, in_get_d}

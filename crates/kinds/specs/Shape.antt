@@ -1,5 +1,5 @@
 -- The shape test is the definition's.
-use Prim.Native.Nat.{ℕ, ◌+◌, ◌-◌, ◌≤◌, ◌<◌, min, max}
+use Prim.Native.Nat.{ℕ, ◌+◌, ◌≤◌, ◌<◌, min, max}
 use Rattle.std.specs.Prelude.{◌≡◌, List, length, get_or, take, drop}
 use Rattle.std.proofs.Math.Path.{ap}
 use Rattle.std.proofs.Common.{ap₂, sym, ◌∙◌, length-drop, get_or-take, get_or-drop, length-take-le, arith}

@@ -8,7 +8,7 @@ use Rattle.std.specs.Int.Bits.{bit_and, and_step, and_zero_r}
 use borrow.Author.Tests.{eq-eqb, eqb-true}
 use Rattle.std.proofs.Math.Nat.{pow-le-pow_right}
 use native.Mathlib.Omega.{arith}
-use Rattle.spec.specs.Outcome.{◌or◌, below}
+use Rattle.spec.specs.Outcome.{◌or◌}
 use Rattle.theory.specs.Basics.Tests.{below_at, true_of, of_true}
 use Rattle.adjacency.specs.Bit.{bit_of, bit_zero, bit_suc}
 use Rattle.adjacency.specs.Rows.{bit_at, bit_in_lem, bit_out, same_test, or_left, or_right, lt_or_ge}

@@ -1,5 +1,5 @@
 -- Every zone is tested for its kind, lowest first; what the tests lean on follows from what was read.
-use Rattle.std.specs.Prelude.{ℕ, zero, suc, ◌+◌, ◌-◌, ◌≤◌, ◌<◌, ◌≡◌, refl, Bool, true, false, List, [], ◌∷◌, length, get_or, drop, eqb}
+use Rattle.std.specs.Prelude.{ℕ, zero, suc, ◌+◌, ◌≤◌, ◌<◌, ◌≡◌, refl, Bool, true, false, List, [], ◌∷◌, length, get_or, drop, eqb}
 use Rattle.std.proofs.Common.{ap, sym, ◌∙◌, drop-cons, eq-eqb, eqb-true, arith}
 use Rattle.std.proofs.Math.Seq.{drop-length}
 use Rattle.std.proofs.Math.Numerals.{add-one}

@@ -1,9 +1,9 @@
 -- The whole map: what was read is the map that the definition gives.
 use Rattle.std.specs.Prelude.{ℕ, ◌+◌, ◌*◌, ◌/◌, ◌≤◌, ◌<◌, ◌≡◌, refl, true, false, List, [], length, get_or, take, drop, replicate}
-use Rattle.std.proofs.Common.{ap, sym, ◌∙◌, subst, arith}
+use Rattle.std.proofs.Common.{ap, sym, ◌∙◌, arith}
 use Rattle.spec.specs.Outcome.{Outcome, ok, refuse, ◌>>=◌, index_of}
 use Rattle.spec.specs.Wire.{payload_of}
-use Rattle.spec.specs.Layout.{Map, Edge, listed, map_of, zone_from, zone_of, zone_at}
+use Rattle.spec.specs.Layout.{Map, Edge, map_of, zone_from, zone_of, zone_at}
 use Rattle.theory.specs.Basics.Lists.{get_d_uniform}
 use Rattle.wire.specs.Payload.{payload}
 use Rattle.adjacency.specs.Rows.{blank, rows_of, join_all, Shows, shows_none}

@@ -1,6 +1,8 @@
 // The listing program. Its stored run is Yard A of document 01.
 #![tactic(auto)]
 
-fn main() {
-    printing::run();
+use std::io;
+
+fn main(rt: HostRuntime) -> io::Result<()> {
+    printing::run(&rt)
 }

@@ -1,11 +1,11 @@
 -- The arrangement of a zone, read place by place, and moves between its places as moves between its vertices.
-use Rattle.std.specs.Prelude.{◌≡◌, refl, ℕ, zero, suc, ◌+◌, ◌-◌, ◌<◌, ◌≤◌, List, [], ◌∷◌, ◌++◌, map, length, get_or, drop}
+use Rattle.std.specs.Prelude.{◌≡◌, refl, ℕ, ◌+◌, ◌<◌, List, [], ◌∷◌, ◌++◌, length, get_or, drop}
 use Rattle.std.proofs.Common.{ap, ap₂, sym, ◌∙◌, add-one, arith, drop-cons}
 use Rattle.std.proofs.Math.ListN.{length-map}
-use Rattle.spec.specs.Arrangement.{Arrangement, Move, mv}
+use Rattle.spec.specs.Arrangement.{Move, mv}
 use Rattle.spec.specs.State.{State, robot_on, cell_of, arrangement_of, across_move, across}
 use Rattle.theory.specs.Basics.Lists.{get_d_map}
-use Rattle.motion.specs.World.{World, made, made_all, made_append, made_one, made_next}
+use Rattle.motion.specs.World.{World, made, made_all, made_append, made_next}
 
 -- ---- moves
 

@@ -1,16 +1,15 @@
 -- What moves inside a zone do to the state, they do to the zone's arrangement.
-use Rattle.std.specs.Prelude.{◌≡◌, ◌≢◌, ℕ, zero, suc, ◌+◌, ◌-◌, ◌<◌, ◌≤◌, get_or}
+use Rattle.std.specs.Prelude.{◌≡◌, ◌≢◌, ℕ, ◌<◌, get_or}
 use Rattle.std.proofs.Math.Path.{refl, ap, ap₂}
 use Rattle.std.proofs.Common.{sym, ◌∙◌, arith, ext_get_or, get_or-set_same, get_or-set_other}
 use mathlib.Core.List.{List, [], ◌∷◌, ◌++◌, map}
 use Rattle.std.proofs.Math.Decide.{ℕ_discrete}
 use Rattle.std.proofs.Math.ListN.{length, set, length-set, length-map}
-use Rattle.spec.specs.Arrangement.{Arrangement, Move, mv, apply, apply_all}
-use Rattle.spec.specs.State.{State, cell_of, robot_on, moved, moved_all, arrangement_of, across_move, across}
+use Rattle.spec.specs.Arrangement.{Arrangement, Move, apply, apply_all}
+use Rattle.spec.specs.State.{State, cell_of, moved, moved_all, arrangement_of, across_move, across}
 use Rattle.theory.specs.Basics.Lists.{get_d_map}
 use Rattle.theory.specs.Maps.Cells.{cell_of_lem, cell_none}
-use Rattle.motion.specs.World.{World, made, made_all, state_is, robots_length}
-use Rattle.motion.specs.Across.{across_cons, arrangement_length, arrangement_at}
+use Rattle.motion.specs.World.{World, made_all, state_is, robots_length}
 
 -- the vertices of a zone: each one of n, none twice
 pub record Listed (n : ℕ) (vs : List ℕ) : Type 0 where

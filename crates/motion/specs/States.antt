@@ -1,6 +1,6 @@
 -- The code's state as the meaning's.
-use Rattle.std.specs.Prelude.{◌≡◌, refl, ℕ, zero, suc, ◌+◌, ◌-◌, ◌*◌, ◌<◌, ◌≤◌, min, List, [], ◌∷◌, ◌++◌, map, length, get_or, set, take, drop, replicate}
-use Rattle.std.proofs.Common.{ap, ap₂, sym, ◌∙◌, append_assoc, append-nil, add-one, arith, length-set, length-take, take-suc, take_all, length-take-le}
+use Rattle.std.specs.Prelude.{◌≡◌, refl, ℕ, zero, suc, ◌+◌, ◌-◌, ◌<◌, ◌≤◌, min, List, [], ◌∷◌, ◌++◌, map, length, get_or, set, take, replicate}
+use Rattle.std.proofs.Common.{ap, ap₂, sym, ◌∙◌, append_assoc, add-one, arith, length-set, length-take, take-suc, take_all, length-take-le}
 use Rattle.std.proofs.Math.Decide.{dec_lt}
 use Rattle.std.proofs.lemmas.List.{length-map, set_at}
 use Rattle.std.proofs.Math.ListN.{get_or-map, get_or-eq_default}

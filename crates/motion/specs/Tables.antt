@@ -1,8 +1,8 @@
 -- The tables of a state, lent as plain numbers.
-use Rattle.std.specs.Prelude.{◌≡◌, refl, ℕ, zero, suc, ◌+◌, ◌-◌, ◌<◌, ◌≤◌, List, [], ◌∷◌, ◌++◌, length, get_or, set, take}
+use Rattle.std.specs.Prelude.{◌≡◌, refl, ℕ, ◌+◌, ◌<◌, ◌≤◌, List, [], ◌∷◌, ◌++◌, length, get_or, set, take}
 use Rattle.std.proofs.Common.{ap, ap₂, sym, ◌∙◌, add-one, arith, length-set, take-suc, take-suc-set, take_all}
 use Rattle.std.proofs.Math.ListN.{get_or-eq_default}
-use Rattle.spec.specs.Arrangement.{Move, mv}
+use Rattle.spec.specs.Arrangement.{mv}
 use Rattle.spec.specs.State as meaning
 use Rattle.theory.specs.Basics.Lists.{get_d_default}
 use Rattle.motion.specs.States.{moved_by}

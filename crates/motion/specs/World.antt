@@ -1,7 +1,7 @@
 -- What a list of moves does to the state, the count and the buffer.
-use Rattle.std.specs.Prelude.{◌≡◌, refl, ℕ, zero, suc, ◌+◌, ◌-◌, ◌*◌, ◌<◌, ◌≤◌, Bool, true, false, List, [], ◌∷◌, ◌++◌, map, length, get_or, set, ltb}
+use Rattle.std.specs.Prelude.{◌≡◌, refl, ℕ, ◌+◌, ◌*◌, ◌<◌, ◌≤◌, true, false, List, [], ◌∷◌, ◌++◌, length, ltb}
 use Rattle.std.proofs.Common.{ap, sym, ◌∙◌, arith, length-set, lt-ltb, le-ltb}
-use Rattle.spec.specs.Arrangement.{Move, mv}
+use Rattle.spec.specs.Arrangement.{Move}
 use Rattle.spec.specs.State as meaning
 use Rattle.motion.specs.Tables.{tabled}
 use Rattle.writer.specs.Laid.{laid_all, laid_length, laid_out}

@@ -1,6 +1,6 @@
 -- A zone's configuration kept as the list of its robots: in order in a hall, in order up to turning in a ring, in any order in a clique, and by
 -- place where the zone is full. Document 01, "Zones and configurations": the tests of a step need no more.
-use Rattle.std.specs.Prelude.{◌≡◌, Bool, true, false, List, [], ◌∷◌, ◌++◌, map, ℕ, zero, suc, ◌+◌, ◌-◌, ◌≤◌, length, get_or, take, drop, replicate, eqb}
+use Rattle.std.specs.Prelude.{Bool, true, false, List, ◌∷◌, ◌++◌, map, ℕ, suc, ◌+◌, ◌-◌, ◌≤◌, length, get_or, take, drop, replicate, eqb}
 use Rattle.spec.specs.Outcome.{◌and◌, all, member, index_of, same_list}
 use Rattle.spec.specs.Arrangement.{Arrangement}
 use Rattle.spec.specs.Hall.{room}

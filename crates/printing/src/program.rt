@@ -1,31 +1,46 @@
 // The listing program: reads MAP, PLACING and PLAN in the folder it runs in, and prints their listing.
-ghost use Rattle.io.specs.Counts.{IsPrefixLen};
+ghost use Rattle.std.specs.Prelude.{◌≡◌, ◌≤◌, length, take};
 
 use crate::files::listing;
-use libc::STDOUT_FILENO;
+use std::io::{Read, Write};
+use std::rt::Files;
+use std::{fs, io};
 
 // Reads a file into the buffer, as far as it goes, and answers how many bytes it read; a missing file has none.
-fn read_file(name: &[u8], buffer: &mut [u8]) -> usize
-    ensures { IsPrefixLen result buffer.new }
+fn read_file<R: Files>(rt: &R, name: &str, buffer: &mut [u8]) -> usize
+    ensures in_bounds { result ≤ length buffer.new }
+    ensures prefix { result ≡ length (take result buffer.new) }
 {
-    let fd = os::open_read(name);
-    if fd < 0 {
-        return 0;
+    match fs::open(rt, name) {
+        Ok(mut file) => read_full(&mut file, buffer),
+        Err(_) => 0,
     }
-    let n = io::read_full(fd, buffer);
-    libc::close(fd);
-    n
+}
+
+// Reads until the buffer is full, the input ends or a read fails, and answers how many bytes it put at the start of the buffer.
+fn read_full<R: Read>(input: &mut R, buffer: &mut [u8]) -> usize
+    ensures in_bounds { result ≤ length buffer.new }
+    ensures prefix { result ≡ length (take result buffer.new) }
+{
+    let mut done = 0;
+    while done < buffer.len() {
+        match input.read(&mut buffer[done..]) {
+            Ok(0) | Err(_) => break,
+            Ok(n) => done += n,
+        }
+    }
+    done
 }
 
 // Each file is read one byte further than the longest valid one; the text's buffer holds the longest listing.
-pub fn run() {
+pub fn run<R: Files + Print>(rt: &R) -> io::Result<()> {
     let mut map = [0u8; 4609];
-    let m = read_file(b"MAP", &mut map);
+    let m = read_file(rt, "MAP", &mut map);
     let mut placing = [0u8; 513];
-    let p = read_file(b"PLACING", &mut placing);
+    let p = read_file(rt, "PLACING", &mut placing);
     let mut plan = [0u8; 32769];
-    let q = read_file(b"PLAN", &mut plan);
+    let q = read_file(rt, "PLAN", &mut plan);
     let mut text = [0u8; 387066];
     let n = listing(&map[..m], &placing[..p], &plan[..q], &mut text);
-    io::write_all(STDOUT_FILENO, &text[..n]);
+    io::writer(rt).write_all(&text[..n])
 }

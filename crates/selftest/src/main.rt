@@ -12,6 +12,7 @@ mod report;
 
 use galzpuna::Answer;
 use report::{told, told_number};
+use std::io;
 
 // Judging of a hall of n vertices, k robots on their goals and no steps.
 fn judged(n: u8, k: u8) -> Answer {
@@ -82,24 +83,31 @@ fn rfc_checksum() -> u32 {
     65535
 }
 
-fn main() {
+fn main(rt: HostRuntime) -> io::Result<()> {
     let mut out = [0u8; 512];
-    let a = told(b"no carts, no steps", empty_list(&mut out), 0, 512);
+    let a = told(&rt, "no carts, no steps", empty_list(&mut out), 0, 512);
     let b = told_number(
-        b"bytes that differ from the empty list's block",
+        &rt,
+        "bytes that differ from the empty list's block",
         empty_list_differences(&out),
         0,
     );
-    let c = told(b"128 points", judged(128, 0), 0, 0);
-    let d = told(b"129 points", judged(129, 0), 16, 0);
-    let e = told(b"64 carts", judged(128, 64), 0, 0);
-    let f = told(b"65 carts", judged(128, 65), 26, 0);
+    let c = told(&rt, "128 points", judged(128, 0), 0, 0);
+    let d = told(&rt, "129 points", judged(129, 0), 16, 0);
+    let e = told(&rt, "64 carts", judged(128, 64), 0, 0);
+    let f = told(&rt, "65 carts", judged(128, 65), 26, 0);
     let g = told(
-        b"outside track at a stack's second point",
+        &rt,
+        "outside track at a stack's second point",
         outside_track(),
         19,
         1,
     );
-    let h = told_number(b"RFC 1071's example, its checksum", rfc_checksum(), 0x220d);
-    report::last(8, a + b + c + d + e + f + g + h);
+    let h = told_number(
+        &rt,
+        "RFC 1071's example, its checksum",
+        rfc_checksum(),
+        0x220d,
+    );
+    report::last(&rt, 8, a + b + c + d + e + f + g + h)
 }

@@ -1,13 +1,13 @@
 -- Rounds kept in two tables, one by robot and one by the vertex left, as the definition finds them in the list of earlier moves.
 use Rattle.std.specs.Prelude.{◌≡◌, refl, ℕ, zero, suc, ◌+◌, ◌-◌, ◌*◌, ◌≤◌, ◌<◌, max, Bool, true, false, get_or, set, replicate, eqb}
 use Rattle.std.proofs.Math.Path.{sym, ap}
-use Rattle.std.proofs.Common.{◌∙◌, ⊎_elim, add-one, length-set, get_or-set_same, get_or-set_other, eqb-true, eq-eqb, ne_eqb}
+use Rattle.std.proofs.Common.{◌∙◌, add-one, length-set, get_or-set_same, get_or-set_other, eqb-true}
 use native.Mathlib.Omega.{arith}
-use mathlib.Core.List.{List, [], ◌∷◌, ◌++◌}
+use mathlib.Core.List.{List, [], ◌∷◌}
 use Rattle.std.proofs.Math.ListN.{length}
 use Rattle.std.proofs.lemmas.List.{get_or-replicate}
 use Rattle.std.proofs.lemmas.Bool.{eqb-false}
-use Rattle.spec.specs.Arrangement.{Move, mv}
+use Rattle.spec.specs.Arrangement.{Move}
 use Rattle.spec.specs.Outcome.{u16}
 use Rattle.spec.specs.State.{Timed, last_round, left_round, round_of, rounds_from, word_bytes}
 use Rattle.writer.specs.Laid.{laid_all, laid_length, laid_append}

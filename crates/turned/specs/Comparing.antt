@@ -2,26 +2,26 @@
 use Rattle.std.specs.Prelude.{◌≡◌, refl, ◌≢◌, Bool, true, false, List, [], ◌∷◌, ◌++◌, get_or, take, T}
 use Rattle.std.proofs.Math.Path.{ap, ap₂, sym}
 use Rattle.std.proofs.Common.{◌∙◌, ⊎_elim, append-nil, add-one, arith, drop_of_length-le, take-append-drop, drop-cons}
-use Prim.Native.Nat.{ℕ, zero, suc, ◌+◌, ◌-◌, ◌<◌, ◌≤◌}
+use Prim.Native.Nat.{ℕ, zero, suc, ◌+◌, ◌<◌, ◌≤◌}
 use Rattle.std.proofs.Math.Decide.{ℕ_discrete}
 use Rattle.std.proofs.Math.ListN.{length, drop}
 use Rattle.std.proofs.Math.Dec.{eqb}
 use borrow.Author.Tests.{eq-eqb, ne_eqb, eqb-false}
-use Rattle.spec.specs.Outcome.{member, index_of, same_list}
+use Rattle.spec.specs.Outcome.{index_of, same_list}
 use Rattle.spec.specs.Arrangement.{Arrangement, cell, order, seek, full}
 use Rattle.spec.specs.State.{State, cell_of, robot_on, arrangement_of}
 use Rattle.spec.specs.Ring.{wrap, frame, turned, ring_can_end}
-use Rattle.theory.specs.Basics.Tests.{of_true, true_of, false_of, same→eq, eq→same}
+use Rattle.theory.specs.Basics.Tests.{false_of, same→eq}
 use Rattle.theory.specs.Basics.Lists.{In, in_head, in_left, in_right, in_append, index_here, index_further}
 use Rattle.theory.specs.Maps.Cells.{cell_of_lem, cell_none, cell_robot, cell_empty}
-use Rattle.theory.specs.Zones.Arrangements.{order_append, cell→member, member→cell, cell_inside}
+use Rattle.theory.specs.Zones.Arrangements.{order_append, member→cell, cell_inside}
 use Rattle.theory.specs.Basics.Searches.{seek_ok}
-use Rattle.motion.specs.Across.{arrangement_length, arrangement_at, arrangement_next}
+use Rattle.motion.specs.Across.{arrangement_next}
 use Rattle.cells.specs.Cells.{seek_same, seek_other}
-use Rattle.circle.specs.Places.{wrap_is, wrap_in}
+use Rattle.circle.specs.Places.{wrap_in}
 use Rattle.circle.specs.Runs.{frame_size, frame_robot}
 use Rattle.cells.specs.Reading.{places_taken, places_free, places_over}
-use Rattle.circle.specs.Reading.{vacant, seek_finds}
+use Rattle.circle.specs.Reading.{vacant}
 
 -- ---- lists of robots, compared
 

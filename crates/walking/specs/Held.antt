@@ -1,5 +1,5 @@
 -- Bytes and parts of a payload that stands in a file.
-use Rattle.std.specs.Prelude.{◌≡◌, Bool, true, false, List, ℕ, ◌+◌, ◌-◌, ◌*◌, ◌/◌, ◌<◌, ◌≤◌, length, get_or, take, drop, eqb}
+use Rattle.std.specs.Prelude.{◌≡◌, Bool, true, false, List, ℕ, ◌+◌, ◌*◌, ◌/◌, ◌<◌, ◌≤◌, length, get_or, take, drop, eqb}
 use Rattle.std.proofs.Common.{sym, ◌∙◌, arith, length-drop, length-take-le, get_or-take, get_or-drop, ext_get_or}
 use Rattle.spec.specs.Outcome.{◌and◌}
 use Rattle.spec.specs.Arrangement.{last_free}

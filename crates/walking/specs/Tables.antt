@@ -1,5 +1,5 @@
 -- The tables that a map is read into, and what they say of an accepted map.
-use Rattle.std.specs.Prelude.{◌≡◌, List, ℕ, ◌+◌, ◌-◌, ◌<◌, ◌≤◌, length, get_or, take, drop}
+use Rattle.std.specs.Prelude.{◌≡◌, List, ℕ, ◌+◌, ◌<◌, ◌≤◌, length, get_or, take, drop}
 use Rattle.std.proofs.Common.{arith}
 use Rattle.spec.specs.Layout.{Map, zone_of, zone_at}
 use Rattle.spec.specs.Terms.{zone_count, kind_of, size_of, place_of}

@@ -4,10 +4,9 @@ use Rattle.std.proofs.Common.{sym, ap₂, ◌∙◌}
 use Rattle.std.proofs.Math.Path.{ap}
 use mathlib.Core.List.{List, [], ◌∷◌, ◌++◌, append_assoc, append-nil}
 use native.Mathlib.Omega.{arith}
-use Rattle.spec.specs.Outcome.{Outcome, ok, refuse, ◌>>=◌, ◌>>◌}
+use Rattle.spec.specs.Outcome.{Outcome, ok, refuse, ◌>>=◌}
 use Rattle.spec.specs.Layout.{Map, zone_of, zone_at}
 use Rattle.spec.specs.Arrangement.{Move, mv}
-use Rattle.spec.specs.ZoneKind.{leave}
 use Rattle.spec.specs.State.{State, moved_all}
 use Rattle.spec.specs.Run.{Ran, step_at, steps_from}
 use Rattle.spec.specs.Terms.{arrangement_in, kind_of, place_of}

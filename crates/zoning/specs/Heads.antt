@@ -1,5 +1,5 @@
 -- The counts of a map, and a zone's head, read step by step.
-use Rattle.std.specs.Prelude.{ℕ, zero, suc, ◌+◌, ◌-◌, ◌≤◌, ◌<◌, ◌≡◌, refl, Bool, true, false, List, get_or, eqb, leb}
+use Rattle.std.specs.Prelude.{ℕ, zero, suc, ◌+◌, ◌≤◌, ◌<◌, ◌≡◌, refl, Bool, true, false, List, get_or, eqb, leb}
 use Rattle.std.proofs.Common.{ap, sym, leb→le, arith}
 use borrow.Author.Tests.{le-leb, lt-leb}
 use Rattle.spec.specs.Outcome.{ok, refuse, ◌>>=◌, ◌>>◌, check, ◌and◌}

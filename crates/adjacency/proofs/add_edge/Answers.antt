@@ -1,9 +1,8 @@
 use native.Mathlib.Omega.{arith}
-use Prim.Native.Nat.{ℕ, ◌-◌, ◌/◌}
+use Prim.Native.Nat.{ℕ}
 use mathlib.Core.Path.{ap, sym, ◌∙◌}
 use mathlib.Core.List.{List}
 use Rattle.adjacency.specs.Rows.{put_bit, join_out, join_out_2, join_is}
-use borrow.Author.Rules.{rules}
 use Rattle.adjacency.proofs.add_edge.Goals as goal
 
 pub returns-then-a-ge128 : goal.returns-then-a-ge128

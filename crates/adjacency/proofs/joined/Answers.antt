@@ -1,6 +1,4 @@
-use Prim.Native.Nat.{◌-◌, ◌/◌}
 use Rattle.adjacency.specs.Rows.{bit_out, bit_out_2, bit_in_lem}
-use borrow.Author.Rules.{rules}
 use Rattle.adjacency.proofs.joined.Goals as goal
 
 pub returns-then-a-ge128 : goal.returns-then-a-ge128

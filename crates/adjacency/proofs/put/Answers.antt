@@ -1,5 +1,5 @@
 use native.Mathlib.Omega.{arith}
-use Prim.Native.Nat.{ℕ, ◌-◌, ◌/◌, ◌%◌, ◌<◌}
+use Prim.Native.Nat.{ℕ, ◌/◌, ◌%◌}
 use mathlib.Core.Path.{ap, ◌∙◌}
 use mathlib.Core.List.{[]}
 use lib.ListN.{get_or, set}
@@ -7,7 +7,6 @@ use lib.Bits.{bit_or}
 use lib.Pow.{shl_exact}
 use lib.Dec.{lit<}
 use native.Mathlib.Nat.{one-mul}
-use borrow.Author.Rules.{rules}
 use Rattle.adjacency.proofs.put.Goals as goal
 
 pub returns : goal.returns

@@ -2,9 +2,9 @@ use mathlib.Core.List.{List}
 use Rattle.answers.specs.Made.{cleared, cleared_none, cleared_more}
 use borrow.Author.Rules.{rules}
 use native.Mathlib.Omega.{arith}
-use Prim.Native.Nat.{ℕ, ◌-◌, ◌≤◌}
+use Prim.Native.Nat.{ℕ}
 use mathlib.Core.Path.{◌≡◌, refl, ap, ◌∙◌}
-use lib.ListN.{length, set, length-set}
+use lib.ListN.{set, length-set}
 use Rattle.answers.proofs.clear.Goals as goal
 
 pub loop-o-init : goal.loop-o-init

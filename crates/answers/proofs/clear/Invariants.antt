@@ -1,11 +1,8 @@
 -- `clear`: at each turn, the bytes passed are zero and the others as they were.
-use mathlib.Core.List.{List}
-use Rattle.answers.specs.Made.{cleared, cleared_none, cleared_more}
-use borrow.Author.Rules.{rules}
-use native.Mathlib.Omega.{arith}
-use Prim.Native.Nat.{ℕ, ◌-◌, ◌≤◌}
-use mathlib.Core.Path.{◌≡◌, refl, ap, ◌∙◌}
-use lib.ListN.{length, set, length-set}
+use Rattle.answers.specs.Made.{cleared}
+use Prim.Native.Nat.{◌-◌, ◌≤◌}
+use mathlib.Core.Path.{◌≡◌}
+use lib.ListN.{length}
 use Rattle.answers.proofs.clear.Given as goal
 
 -- `clear`: at each turn, the bytes passed are zero and the others as they were.

@@ -3,7 +3,6 @@ use native.Mathlib.Omega.{arith}
 use Prim.Native.Nat.{◌+◌, ◌*◌, ◌/◌}
 use mathlib.Core.Path.{ap, sym, ◌∙◌}
 use Rattle.answers.specs.Delivered.{answered, delivered_over, delivered_short, delivered_whole}
-use borrow.Author.Rules.{rules}
 use Rattle.answers.proofs.deliver.Goals as goal
 
 pub returns-then-len-most : goal.returns-then-len-most

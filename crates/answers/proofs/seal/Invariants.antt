@@ -1,15 +1,9 @@
 -- `seal`: at each turn, the blocks passed are finished and the others as they were.
-use lib.ListN.{length-drop}
-use lib.Seq.{length-take-le}
-use Rattle.answers.specs.Sealed.{up_all}
 use mathlib.Core.List.{◌++◌}
 use Rattle.wire.specs.Payload.{payload}
-use Rattle.answers.specs.Sealed.{up_to, part_is, seal_step, seal_end}
-use borrow.Author.Rules.{rules}
-use native.Mathlib.Omega.{arith}
-use Prim.Native.Nat.{ℕ, ◌+◌, ◌-◌, ◌*◌, ◌/◌, ◌≤◌}
-use mathlib.Core.Path.{◌≡◌, refl, ap, ◌∙◌}
-use mathlib.Core.Logic.{⊎_elim}
+use Rattle.answers.specs.Sealed.{up_to}
+use Prim.Native.Nat.{◌-◌, ◌*◌, ◌≤◌}
+use mathlib.Core.Path.{◌≡◌}
 use lib.ListN.{length, take, drop}
 use Rattle.answers.proofs.seal.Given as goal
 

@@ -1,6 +1,5 @@
 -- `seal_block`: head, padding and checksum make the block (`sealed`).
 use Rattle.answers.specs.Made.{unstored, sealed}
-use borrow.Author.Rules.{rules}
 use native.Mathlib.Omega.{arith}
 use mathlib.Core.Path.{◌≡◌, ◌∙◌}
 use lib.ListN.{length, length-set}

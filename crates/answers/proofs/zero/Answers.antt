@@ -1,5 +1,4 @@
 -- `zero`: the whole buffer is cleared.
-use borrow.Author.Rules.{rules}
 use mathlib.Core.Path.{◌∙◌}
 use Rattle.answers.specs.Made.{cleared_all}
 use Rattle.answers.proofs.zero.Goals as goal

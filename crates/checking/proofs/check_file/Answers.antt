@@ -1,10 +1,8 @@
-use borrow.Author.Rules.{rules}
-use borrow.Author.Tests.{not-true, not-false}
 use native.Mathlib.Omega.{arith}
-use Prim.Native.Nat.{◌-◌, ◌/◌}
+use Prim.Native.Nat.{◌/◌}
 use mathlib.Core.Path.{sym, ◌∙◌}
 use lib.ListN.{length}
-use Rattle.checking.specs.Checked.{Going, size_odd, size_none, size_over, going_start, going_sum, going_head, going_fill, going_end, going_whole, good_le, going_more}
+use Rattle.checking.specs.Checked.{size_odd, size_none, size_over, going_start, going_sum, going_head, going_fill, going_end, going_whole, good_le, going_more}
 use Rattle.checking.proofs.check_file.Goals as goal
 
 pub returns-then-file-ne0 : goal.returns-then-file-ne0
@@ -30,23 +28,32 @@ loop-i-init c =
 pub returns-then-not-sum_ok : goal.returns-then-not-sum_ok
 returns-then-not-sum_ok c =
     let a = c.args in
-    let o = c.loop-i in record { by_index = going_sum a.kind a.limit a.file.now (length a.file.now / 512) o.i o.len o.invariant c.loop-i-test.true
-          (sym c.sum_ok.ensures ∙ c.if-not-sum_ok.true); held = omega arith }
+    let o = c.loop-i in record {
+      by_index = going_sum a.kind a.limit a.file.now (length a.file.now / 512) o.i o.len o.invariant c.loop-i-test.true
+          (sym c.sum_ok.ensures ∙ c.if-not-sum_ok.true);
+      held = omega arith;
+    }
 
 pub returns-then-not-head_ok : goal.returns-then-not-head_ok
 returns-then-not-head_ok c =
     let a = c.args in
-    let o = c.loop-i in record { by_index = going_head a.kind a.limit a.file.now (length a.file.now / 512) o.i o.len o.invariant c.loop-i-test.true
+    let o = c.loop-i in record {
+      by_index = going_head a.kind a.limit a.file.now (length a.file.now / 512) o.i o.len o.invariant c.loop-i-test.true
           (sym c.sum_ok.ensures ∙ c.if-not-sum_ok.false)
-          (sym c.head_ok.ensures ∙ c.if-not-head_ok.true); held = omega arith }
+          (sym c.head_ok.ensures ∙ c.if-not-head_ok.true);
+      held = omega arith;
+    }
 
 pub returns-then-not-fill_ok : goal.returns-then-not-fill_ok
 returns-then-not-fill_ok c =
     let a = c.args in
-    let o = c.loop-i in record { by_index = going_fill a.kind a.limit a.file.now (length a.file.now / 512) o.i o.len o.invariant c.loop-i-test.true
+    let o = c.loop-i in record {
+      by_index = going_fill a.kind a.limit a.file.now (length a.file.now / 512) o.i o.len o.invariant c.loop-i-test.true
           (sym c.sum_ok.ensures ∙ c.if-not-sum_ok.false)
           (sym c.head_ok.ensures ∙ c.if-not-head_ok.false)
-          (sym c.fill_ok.ensures ∙ c.if-not-fill_ok.true); held = omega arith }
+          (sym c.fill_ok.ensures ∙ c.if-not-fill_ok.true);
+      held = omega arith;
+    }
 
 pub overflow_add-len : goal.overflow_add-len
 overflow_add-len c =

@@ -1,5 +1,5 @@
 -- `fill_allowed`: a full block, a last block, a fill of 0.
-use borrow.Author.Tests.{lt-leb, le-leb, not-true, not-false}
+use borrow.Author.Tests.{lt-leb, le-leb}
 use Rattle.spec.specs.Outcome.{◌and◌}
 use Rattle.spec.specs.Wire.{filled}
 use Rattle.checking.proofs.fill_allowed.Goals as goal

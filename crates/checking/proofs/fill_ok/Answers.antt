@@ -1,7 +1,6 @@
 -- `fill_ok`: the fill is allowed, so the padding stands in the block.
 use Rattle.spec.specs.Outcome.{◌and◌}
 use Rattle.checking.specs.Block.{filled_le, fill_is, block_rest}
-use borrow.Author.Rules.{rules}
 use native.Mathlib.Omega.{arith}
 use mathlib.Core.Path.{sym, ◌∙◌}
 use Rattle.checking.proofs.fill_ok.Goals as goal

@@ -2,7 +2,6 @@
 use borrow.Author.Tests.{eq-eqb, ne_eqb}
 use Rattle.spec.specs.Outcome.{◌and◌}
 use Rattle.checking.specs.Block.{head_is}
-use borrow.Author.Rules.{rules}
 use Rattle.checking.proofs.head_ok.Goals as goal
 
 pub returns-then-k-kind : goal.returns-then-k-kind

@@ -1,5 +1,4 @@
 -- `sum_ok`: the sum of all words tells whether the stored one is the checksum of the others.
-use borrow.Author.Rules.{rules}
 use native.Mathlib.Omega.{arith}
 use Prim.Native.Nat.{◌+◌, ◌-◌}
 use mathlib.Core.Path.{sym, ◌∙◌}

@@ -1,11 +1,7 @@
-use Rattle.spec.specs.Outcome.{all, ◌and◌}
-use lib.Dec.{eqb}
 use Rattle.checking.specs.Block.{zeros_first, zeros_more, zeros_none}
 use borrow.Author.Rules.{rules}
 use native.Mathlib.Omega.{arith}
-use Prim.Native.Nat.{◌-◌, ◌≤◌}
-use mathlib.Core.Path.{◌≡◌, sym, ◌∙◌}
-use lib.ListN.{take, drop}
+use mathlib.Core.Path.{sym, ◌∙◌}
 use Rattle.checking.proofs.zeros.Goals as goal
 
 pub loop-o-init : goal.loop-o-init

@@ -1,11 +1,8 @@
 -- `zeros`: at each turn, that no bit is set so far and what is left is zeros is the test of the whole.
 use Rattle.spec.specs.Outcome.{all, ◌and◌}
 use lib.Dec.{eqb}
-use Rattle.checking.specs.Block.{zeros_first, zeros_more, zeros_none}
-use borrow.Author.Rules.{rules}
-use native.Mathlib.Omega.{arith}
 use Prim.Native.Nat.{◌-◌, ◌≤◌}
-use mathlib.Core.Path.{◌≡◌, sym, ◌∙◌}
+use mathlib.Core.Path.{◌≡◌}
 use lib.ListN.{take, drop}
 use Rattle.checking.proofs.zeros.Given as goal
 

@@ -1,5 +1,4 @@
 -- `checksum_at`: the sum is folded by one rest, but for a sum of 0.
-use borrow.Author.Rules.{rules}
 use native.Mathlib.Omega.{arith}
 use mathlib.Core.Path.{sym, ◌∙◌}
 use lib.ListN.{take, drop}

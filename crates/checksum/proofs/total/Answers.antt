@@ -1,10 +1,9 @@
 use borrow.Author.Rules.{rules}
 use native.Mathlib.Omega.{arith}
-use Prim.Native.Nat.{◌+◌, ◌-◌, ◌*◌, ◌%◌, ◌≤◌}
+use Prim.Native.Nat.{◌+◌, ◌-◌}
 use mathlib.Core.Path.{◌≡◌, sym, ◌∙◌}
-use lib.ListN.{take, drop}
-use Rattle.spec.specs.Wire.{sum_words}
-use Rattle.checksum.specs.Sum.{folded, plain, fold_none, fold_eight, fold_all}
+use lib.ListN.{drop}
+use Rattle.checksum.specs.Sum.{fold_none, fold_eight, fold_all}
 use Rattle.checksum.proofs.total.Goals as goal
 
 pub loop-o-init : goal.loop-o-init

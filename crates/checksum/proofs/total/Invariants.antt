@@ -1,11 +1,9 @@
 -- `total`: at each turn, what is summed so far with the words still left folds to the sum of all words.
-use borrow.Author.Rules.{rules}
-use native.Mathlib.Omega.{arith}
 use Prim.Native.Nat.{◌+◌, ◌-◌, ◌*◌, ◌%◌, ◌≤◌}
-use mathlib.Core.Path.{◌≡◌, sym, ◌∙◌}
+use mathlib.Core.Path.{◌≡◌}
 use lib.ListN.{take, drop}
 use Rattle.spec.specs.Wire.{sum_words}
-use Rattle.checksum.specs.Sum.{folded, plain, fold_none, fold_eight, fold_all}
+use Rattle.checksum.specs.Sum.{folded, plain}
 use Rattle.checksum.proofs.total.Given as goal
 
 -- `total`: at each turn, what is summed so far with the words still left folds to the sum of all words.

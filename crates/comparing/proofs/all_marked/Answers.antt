@@ -1,10 +1,10 @@
 use borrow.Author.Rules.{rules}
-use Prim.Native.Nat.{ℕ, ◌-◌, ◌≤◌}
-use mathlib.Core.Path.{◌≡◌, refl, ap, ap₂, ◌∙◌}
+use Prim.Native.Nat.{ℕ}
+use mathlib.Core.Path.{refl, ap, ap₂, ◌∙◌}
 use mathlib.Core.List.{List}
-use lib.ListN.{length, drop, get_or}
+use lib.ListN.{get_or}
 use Rattle.comparing.specs.Marks.{marked}
-use Rattle.comparing.specs.Comparing.{among, no_marks, among_past, among_marked, among_unmarked, among_all}
+use Rattle.comparing.specs.Comparing.{among_past, among_marked, among_unmarked, among_all}
 use Rattle.comparing.proofs.all_marked.Goals as goal
 
 pub loop-k-init : goal.loop-k-init

@@ -1,10 +1,8 @@
-use borrow.Author.Rules.{rules}
-use Prim.Native.Nat.{ℕ, ◌-◌, ◌≤◌}
-use mathlib.Core.Path.{◌≡◌, refl, ap, ap₂, ◌∙◌}
-use mathlib.Core.List.{List}
-use lib.ListN.{length, drop, get_or}
+use Prim.Native.Nat.{◌-◌, ◌≤◌}
+use mathlib.Core.Path.{◌≡◌}
+use lib.ListN.{length, drop}
 use Rattle.comparing.specs.Marks.{marked}
-use Rattle.comparing.specs.Comparing.{among, no_marks, among_past, among_marked, among_unmarked, among_all}
+use Rattle.comparing.specs.Comparing.{among, no_marks}
 use Rattle.comparing.proofs.all_marked.Given as goal
 
 abbrev pub invariant-loop-k : goal.invariant-loop-k

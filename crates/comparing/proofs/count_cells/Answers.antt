@@ -1,9 +1,5 @@
 use borrow.Author.Rules.{rules}
 use native.Mathlib.Omega.{arith}
-use Prim.Native.Nat.{◌+◌, ◌-◌, ◌≤◌}
-use mathlib.Core.Path.{◌≡◌}
-use lib.ListN.{length, drop}
-use Rattle.spec.specs.Arrangement.{order}
 use Rattle.comparing.specs.Comparing.{count_taken, count_empty, count_all}
 use Rattle.comparing.proofs.count_cells.Goals as goal
 

@@ -1,8 +1,8 @@
 use borrow.Author.Rules.{rules}
-use Prim.Native.Nat.{ℕ, ◌-◌, ◌≤◌}
-use mathlib.Core.Path.{◌≡◌, refl, ap, ◌∙◌}
-use lib.ListN.{length, set, drop}
-use Rattle.comparing.specs.Marks.{marked, mark_next, mark_end}
+use Prim.Native.Nat.{ℕ}
+use mathlib.Core.Path.{refl, ap, ◌∙◌}
+use lib.ListN.{set}
+use Rattle.comparing.specs.Marks.{mark_next, mark_end}
 use Rattle.comparing.proofs.mark_cells.Goals as goal
 
 pub loop-k-init : goal.loop-k-init

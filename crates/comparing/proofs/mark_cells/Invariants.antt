@@ -1,8 +1,7 @@
-use borrow.Author.Rules.{rules}
-use Prim.Native.Nat.{ℕ, ◌-◌, ◌≤◌}
-use mathlib.Core.Path.{◌≡◌, refl, ap, ◌∙◌}
-use lib.ListN.{length, set, drop}
-use Rattle.comparing.specs.Marks.{marked, mark_next, mark_end}
+use Prim.Native.Nat.{◌-◌, ◌≤◌}
+use mathlib.Core.Path.{◌≡◌}
+use lib.ListN.{length, drop}
+use Rattle.comparing.specs.Marks.{marked}
 use Rattle.comparing.proofs.mark_cells.Given as goal
 
 abbrev pub invariant-loop-k : goal.invariant-loop-k

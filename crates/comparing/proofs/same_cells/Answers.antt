@@ -1,10 +1,7 @@
 use borrow.Author.Rules.{rules}
 use native.Mathlib.Omega.{arith}
-use Prim.Native.Nat.{◌-◌, ◌≤◌}
-use mathlib.Core.Path.{◌≡◌, refl, ◌∙◌}
-use lib.ListN.{length, drop}
+use mathlib.Core.Path.{refl, ◌∙◌}
 use Rattle.comparing.specs.Comparing.{list_other, list_further, list_not, list_all}
-use Rattle.spec.specs.Outcome.{same_list}
 use Rattle.comparing.proofs.same_cells.Goals as goal
 
 pub returns-then-cells-goal : goal.returns-then-cells-goal

@@ -1,9 +1,6 @@
-use borrow.Author.Rules.{rules}
-use native.Mathlib.Omega.{arith}
 use Prim.Native.Nat.{◌-◌, ◌≤◌}
-use mathlib.Core.Path.{◌≡◌, refl, ◌∙◌}
+use mathlib.Core.Path.{◌≡◌}
 use lib.ListN.{length, drop}
-use Rattle.comparing.specs.Comparing.{list_other, list_further, list_not, list_all}
 use Rattle.spec.specs.Outcome.{same_list}
 use Rattle.comparing.proofs.same_cells.Given as goal
 

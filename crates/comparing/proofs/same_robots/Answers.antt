@@ -1,4 +1,3 @@
-use borrow.Author.Rules.{rules}
 use mathlib.Core.Path.{sym, ◌∙◌}
 use Rattle.comparing.specs.Comparing.{robots_other, robots_not, robots_same}
 use Rattle.comparing.proofs.same_robots.Goals as goal

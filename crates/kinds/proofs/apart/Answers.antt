@@ -1,7 +1,4 @@
-use borrow.Author.Rules.{rules}
-use Prim.Native.Nat.{ℕ, ◌-◌}
-use mathlib.Core.Path.{ap, sym, ◌∙◌}
-use borrow.Author.Tests.{eq-eqb, ne_eqb}
+use mathlib.Core.Path.{sym}
 use Rattle.kinds.specs.Marks.{apart_out, apart_first, apart_second}
 use Rattle.kinds.proofs.apart.Goals as goal
 

@@ -1,13 +1,9 @@
-use borrow.Author.Rules.{rules}
-use native.Mathlib.Omega.{arith}
-use Prim.Native.Nat.{◌+◌, ◌-◌, ◌≤◌}
-use mathlib.Core.Path.{◌≡◌, refl, ap, sym, ◌∙◌}
+use Prim.Native.Nat.{◌-◌, ◌≤◌}
+use mathlib.Core.Path.{◌≡◌}
 use mathlib.Core.Bool.{true}
-use lib.ListN.{get_or}
-use borrow.Author.Tests.{not-true, not-false}
 use Rattle.spec.specs.Outcome.{below}
 use Rattle.kinds.specs.Tests.{row_test}
-use Rattle.kinds.specs.Places.{Below, below_start, below_next, below_fails, row_clique, rows_more, clique_over}
+use Rattle.kinds.specs.Places.{Below}
 use Rattle.kinds.proofs.clique_ok.Given as goal
 
 abbrev pub invariant-loop-j : goal.invariant-loop-j

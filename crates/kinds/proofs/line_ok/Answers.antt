@@ -1,13 +1,10 @@
-use borrow.Author.Rules.{rules}
 use native.Mathlib.Omega.{arith}
-use Prim.Native.Nat.{◌+◌, ◌-◌, ◌≤◌}
+use Prim.Native.Nat.{◌+◌, ◌-◌}
 use mathlib.Core.Path.{◌≡◌, refl, ap, sym, ◌∙◌}
-use mathlib.Core.Bool.{true}
 use lib.ListN.{get_or}
-use borrow.Author.Tests.{not-true, not-false}
 use Rattle.spec.specs.Outcome.{below}
 use Rattle.kinds.specs.Tests.{row_test}
-use Rattle.kinds.specs.Places.{Between, between_start, between_next, below_fails, rows_one, rows_more, rows_few}
+use Rattle.kinds.specs.Places.{between_start, between_next, below_fails, rows_one, rows_more, rows_few}
 use Rattle.kinds.proofs.line_ok.Goals as goal
 
 pub returns-then-size-lt2 : goal.returns-then-size-lt2

@@ -1,13 +1,9 @@
-use borrow.Author.Rules.{rules}
-use native.Mathlib.Omega.{arith}
-use Prim.Native.Nat.{◌+◌, ◌-◌, ◌≤◌}
-use mathlib.Core.Path.{◌≡◌, refl, ap, sym, ◌∙◌}
+use Prim.Native.Nat.{◌-◌, ◌≤◌}
+use mathlib.Core.Path.{◌≡◌}
 use mathlib.Core.Bool.{true}
-use lib.ListN.{get_or}
-use borrow.Author.Tests.{not-true, not-false}
 use Rattle.spec.specs.Outcome.{below}
 use Rattle.kinds.specs.Tests.{row_test}
-use Rattle.kinds.specs.Places.{Between, between_start, between_next, below_fails, rows_one, rows_more, rows_few}
+use Rattle.kinds.specs.Places.{Between}
 use Rattle.kinds.proofs.line_ok.Given as goal
 
 abbrev pub invariant-loop-j : goal.invariant-loop-j

@@ -1,6 +1,4 @@
-use Prim.Native.Nat.{◌-◌, ◌/◌}
 use Rattle.kinds.specs.Links.{links_any, links_next, links_line, links_round, links_inner}
-use borrow.Author.Rules.{rules}
 use Rattle.kinds.proofs.links.Goals as goal
 
 pub returns-then-kind-eq3 : goal.returns-then-kind-eq3

@@ -1,5 +1,3 @@
-use borrow.Author.Rules.{rules}
-use Prim.Native.Nat.{◌-◌}
 use Rattle.kinds.specs.Marks.{meet_first, meet_second}
 use Rattle.kinds.proofs.meets.Goals as goal
 

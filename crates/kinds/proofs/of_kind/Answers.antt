@@ -1,6 +1,4 @@
-use borrow.Author.Rules.{rules}
 use native.Mathlib.Omega.{arith}
-use Prim.Native.Nat.{◌-◌}
 use mathlib.Core.Path.{◌∙◌}
 use Rattle.kinds.specs.Kind.{kind_outside, kind_stack, kind_hall, kind_clique, kind_ring, kind_none}
 use Rattle.kinds.proofs.of_kind.Goals as goal

@@ -1,9 +1,6 @@
-use borrow.Author.Rules.{rules}
-use native.Mathlib.Omega.{arith}
 use Prim.Native.Nat.{◌+◌, ◌-◌, ◌≤◌}
-use mathlib.Core.Path.{◌≡◌, refl, ap, ap₂, ◌∙◌}
-use borrow.Author.Tests.{eq-eqb, ne_eqb}
-use Rattle.kinds.specs.Words.{out_from, out_bit, out_room, out_more}
+use mathlib.Core.Path.{◌≡◌}
+use Rattle.kinds.specs.Words.{out_from}
 use Rattle.kinds.proofs.outside.Given as goal
 
 abbrev pub invariant-loop-i : goal.invariant-loop-i

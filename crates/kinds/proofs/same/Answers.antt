@@ -1,4 +1,3 @@
-use Prim.Native.Nat.{◌-◌, ◌/◌}
 use Rattle.spec.specs.Layout.{same_bool}
 use Rattle.kinds.proofs.same.Goals as goal
 

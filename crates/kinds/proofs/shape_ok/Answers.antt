@@ -1,5 +1,4 @@
-use borrow.Author.Rules.{rules}
-use Prim.Native.Nat.{ℕ, ◌-◌}
+use Prim.Native.Nat.{ℕ}
 use mathlib.Core.Path.{ap, sym, ◌∙◌}
 use Rattle.kinds.specs.Tests.{shape_test}
 use Rattle.kinds.proofs.shape_ok.Goals as goal

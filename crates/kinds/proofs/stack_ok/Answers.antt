@@ -1,7 +1,4 @@
-use borrow.Author.Rules.{rules}
-use Prim.Native.Nat.{◌-◌}
 use mathlib.Core.Path.{sym, ◌∙◌}
-use borrow.Author.Tests.{not-true, not-false}
 use Rattle.kinds.specs.Tests.{stack_not, stack_shaped}
 use Rattle.kinds.proofs.stack_ok.Goals as goal
 

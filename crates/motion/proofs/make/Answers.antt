@@ -1,4 +1,3 @@
-use borrow.Author.Rules.{rules}
 use Rattle.spec.specs.Arrangement.{mv}
 use Rattle.motion.specs.Tables.{tabled}
 use Rattle.motion.specs.World.{make_leaves}

@@ -1,5 +1,5 @@
 use Rattle.motion.specs.declared.State.{State}
-use mathlib.Core.Path.{◌≡◌, refl, ap, sym, ◌∙◌}
+use mathlib.Core.Path.{◌≡◌, refl, ap, ◌∙◌}
 use lib.ListN.{length}
 use Rattle.motion.specs.States.{length_mapped, with_robot, robot_past_end, vertex_past_end, robots_kept, moved_leaves}
 use borrow.Author.Rules.{rules}

@@ -1,6 +1,5 @@
-use mathlib.Core.Path.{◌≡◌, refl, ap, sym, ◌∙◌}
+use mathlib.Core.Path.{sym}
 use lib.Seq.{set_out}
-use borrow.Author.Rules.{rules}
 use Rattle.motion.proofs.put_cell.Goals as goal
 
 pub returns-else-i-cells : goal.returns-else-i-cells

@@ -3,7 +3,6 @@ use native.Mathlib.Omega.{arith}
 use mathlib.Core.Path.{◌∙◌}
 use Rattle.spec.specs.Arrangement.{mv}
 use Rattle.motion.specs.World.{laid_move_lem, laid_move_past}
-use borrow.Author.Rules.{rules}
 use Rattle.motion.proofs.put_move.Goals as goal
 
 pub returns-then-n-lt4611686018427387904 : goal.returns-then-n-lt4611686018427387904

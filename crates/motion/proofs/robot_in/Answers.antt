@@ -1,5 +1,4 @@
 use Rattle.motion.specs.Tables.{entry_in_lem, entry_past}
-use borrow.Author.Rules.{rules}
 use Rattle.motion.proofs.robot_in.Goals as goal
 
 pub returns-then-i-robots : goal.returns-then-i-robots

@@ -1,11 +1,10 @@
 use borrow.Author.Rules.{rules}
 use native.Mathlib.Omega.{arith}
-use Prim.Native.Nat.{◌-◌, ◌≤◌}
 use mathlib.Core.Path.{◌≡◌, sym, ◌∙◌}
 use mathlib.Core.List.{map}
 use lib.ListN.{length, length-map, get_or-map}
 use Rattle.motion.specs.States.{robot_no, length_mapped}
-use Rattle.motion.specs.Tables.{Copied, copied_none, copied_next, copied_all}
+use Rattle.motion.specs.Tables.{copied_none, copied_next, copied_all}
 use Rattle.motion.proofs.robots_of.Goals as goal
 
 pub loop-i-init : goal.loop-i-init

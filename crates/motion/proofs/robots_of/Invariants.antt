@@ -1,11 +1,9 @@
-use borrow.Author.Rules.{rules}
-use native.Mathlib.Omega.{arith}
 use Prim.Native.Nat.{◌-◌, ◌≤◌}
-use mathlib.Core.Path.{◌≡◌, sym, ◌∙◌}
+use mathlib.Core.Path.{◌≡◌}
 use mathlib.Core.List.{map}
-use lib.ListN.{length, length-map, get_or-map}
-use Rattle.motion.specs.States.{robot_no, length_mapped}
-use Rattle.motion.specs.Tables.{Copied, copied_none, copied_next, copied_all}
+use lib.ListN.{length}
+use Rattle.motion.specs.States.{robot_no}
+use Rattle.motion.specs.Tables.{Copied}
 use Rattle.motion.proofs.robots_of.Given as goal
 
 abbrev pub invariant-loop-i : goal.invariant-loop-i

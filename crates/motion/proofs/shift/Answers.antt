@@ -1,5 +1,4 @@
 use Rattle.motion.specs.Tables.{shifted}
-use borrow.Author.Rules.{rules}
 use Rattle.motion.proofs.shift.Goals as goal
 
 pub returns : goal.returns

@@ -1,9 +1,8 @@
 use borrow.Author.Rules.{rules}
-use mathlib.Core.Path.{◌≡◌, refl, ap, sym, ◌∙◌}
+use mathlib.Core.Path.{refl}
 use native.Mathlib.Omega.{arith}
-use Prim.Native.Nat.{◌-◌}
 use lib.ListN.{get_or}
-use Rattle.motion.specs.States.{Standing, standing_none, standing_next, standing_all, robot_past_end, with_vertex, length_mapped}
+use Rattle.motion.specs.States.{standing_none, standing_next, standing_all, robot_past_end, with_vertex, length_mapped}
 use Rattle.motion.proofs.standing.Goals as goal
 
 pub loop-i-init : goal.loop-i-init

@@ -1,9 +1,5 @@
-use borrow.Author.Rules.{rules}
-use mathlib.Core.Path.{◌≡◌, refl, ap, sym, ◌∙◌}
-use native.Mathlib.Omega.{arith}
 use Prim.Native.Nat.{◌-◌}
-use lib.ListN.{get_or}
-use Rattle.motion.specs.States.{Standing, standing_none, standing_next, standing_all, robot_past_end, with_vertex, length_mapped}
+use Rattle.motion.specs.States.{Standing}
 use Rattle.motion.proofs.standing.Given as goal
 
 abbrev pub invariant-loop-i : goal.invariant-loop-i

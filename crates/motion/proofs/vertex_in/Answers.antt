@@ -1,5 +1,4 @@
 use Rattle.motion.specs.Tables.{entry_in_lem, entry_past}
-use borrow.Author.Rules.{rules}
 use Rattle.motion.proofs.vertex_in.Goals as goal
 
 pub returns-then-i-vertices : goal.returns-then-i-vertices

@@ -1,4 +1,4 @@
-use mathlib.Core.Path.{◌≡◌, refl, ap, sym, ◌∙◌}
+use mathlib.Core.Path.{◌≡◌}
 use lib.ListN.{length}
 use Rattle.motion.specs.States.{length_mapped, vertex_in, vertex_past}
 use borrow.Author.Rules.{rules}

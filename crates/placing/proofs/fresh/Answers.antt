@@ -1,5 +1,3 @@
-use borrow.Author.Rules.{rules}
-use Prim.Native.Nat.{◌-◌}
 use Rattle.placing.specs.Placing.{fresh_over, fresh_under}
 use Rattle.placing.proofs.fresh.Goals as goal
 

@@ -1,8 +1,6 @@
-use borrow.Author.Rules.{rules}
 use native.Mathlib.Omega.{arith}
-use Prim.Native.Nat.{◌+◌, ◌-◌, ◌*◌}
+use Prim.Native.Nat.{◌+◌, ◌*◌}
 use mathlib.Core.Path.{refl, sym, ◌∙◌}
-use borrow.Author.Tests.{not-true, not-false}
 use Rattle.placing.specs.declared.PlacingFault.TheVariants.{Short, Range}
 use Rattle.placing.specs.Placing.{no_placing, nothing_is, count_short, count_over, count_above, placing_refused, placing_surplus, placing_whole}
 use Rattle.placing.proofs.read_payload.Goals as goal

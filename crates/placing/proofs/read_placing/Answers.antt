@@ -1,5 +1,3 @@
-use borrow.Author.Rules.{rules}
-use Prim.Native.Nat.{◌-◌}
 use mathlib.Core.Path.{refl, ap}
 use Rattle.checking.specs.Checked.{checked_of}
 use Rattle.placing.specs.declared.PlacingFault.TheVariants.{Length, Checksum, Head, Fill}

@@ -1,10 +1,9 @@
 use borrow.Author.Rules.{rules}
 use native.Mathlib.Omega.{arith}
-use Prim.Native.Nat.{◌+◌, ◌-◌, ◌*◌, ◌≤◌}
+use Prim.Native.Nat.{◌+◌, ◌*◌}
 use mathlib.Core.Path.{refl, sym, ◌∙◌}
-use borrow.Author.Tests.{not-true, not-false}
 use Rattle.placing.specs.declared.PlacingFault.TheVariants.{Short, Start, Goal}
-use Rattle.placing.specs.Placing.{Going, robots_refused, going_start, going_short, going_start_bad, going_half, going_goal_bad, going_more, going_end}
+use Rattle.placing.specs.Placing.{robots_refused, going_start, going_short, going_start_bad, going_half, going_goal_bad, going_more, going_end}
 use Rattle.placing.proofs.read_robots.Goals as goal
 
 pub loop-i-init : goal.loop-i-init

@@ -1,9 +1,8 @@
 use borrow.Author.Rules.{rules}
-use Prim.Native.Nat.{◌+◌, ◌-◌, ◌*◌}
+use Prim.Native.Nat.{◌+◌, ◌*◌}
 use mathlib.Core.Path.{◌≡◌, refl}
-use Rattle.wire.specs.Payload.{place_of}
-use Rattle.replay.specs.Moves.{file_bytes, three_bytes}
-use Rattle.timing.specs.Rounds.{Timing, timing_start, timing_more, timing_end, entry_small, left_entry_small}
+use Rattle.replay.specs.Moves.{three_bytes}
+use Rattle.timing.specs.Rounds.{timing_start, timing_more, timing_end, entry_small, left_entry_small}
 use native.Mathlib.Omega.{arith}
 use Rattle.timing.proofs.write_rounds.Goals as goal
 

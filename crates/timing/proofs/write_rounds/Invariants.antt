@@ -1,10 +1,8 @@
-use borrow.Author.Rules.{rules}
 use Prim.Native.Nat.{◌+◌, ◌-◌, ◌*◌}
-use mathlib.Core.Path.{◌≡◌, refl}
+use mathlib.Core.Path.{◌≡◌}
 use Rattle.wire.specs.Payload.{place_of}
-use Rattle.replay.specs.Moves.{file_bytes, three_bytes}
-use Rattle.timing.specs.Rounds.{Timing, timing_start, timing_more, timing_end, entry_small, left_entry_small}
-use native.Mathlib.Omega.{arith}
+use Rattle.replay.specs.Moves.{file_bytes}
+use Rattle.timing.specs.Rounds.{Timing}
 use Rattle.timing.proofs.write_rounds.Given as goal
 
 abbrev pub invariant-loop-i : goal.invariant-loop-i

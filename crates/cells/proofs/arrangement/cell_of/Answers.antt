@@ -1,7 +1,6 @@
-use mathlib.Core.Path.{◌≡◌, refl, ap, sym, ◌∙◌}
+use mathlib.Core.Path.{sym, ◌∙◌}
 use native.Mathlib.Numerals.{add-one}
 use Rattle.theory.specs.Maps.Cells.{cell_of_lem, cell_none}
-use borrow.Author.Rules.{rules}
 use Rattle.cells.proofs.arrangement.cell_of.Goals as goal
 
 pub returns-then-r-eq255 : goal.returns-then-r-eq255

@@ -1,13 +1,13 @@
 use borrow.Author.Rules.{rules}
-use mathlib.Core.Path.{◌≡◌, refl, ap, sym, ◌∙◌}
+use mathlib.Core.Path.{refl, ap, sym, ◌∙◌}
 use native.Mathlib.Omega.{arith}
-use Prim.Native.Nat.{ℕ, ◌+◌, ◌-◌, ◌≤◌}
-use mathlib.Core.List.{List, ◌∷◌, ◌++◌}
-use lib.ListN.{length, take, drop, length-set}
+use Prim.Native.Nat.{ℕ, ◌+◌}
+use mathlib.Core.List.{◌∷◌}
+use lib.ListN.{drop, length-set}
 use Rattle.spec.specs.State.{arrangement_of}
 use Rattle.motion.specs.Tables.{on_vertices}
 use Rattle.motion.specs.Across.{arrangement_length, arrangement_next}
-use Rattle.cells.specs.Cells.{overlaid, overlaid_step, overlaid_end}
+use Rattle.cells.specs.Cells.{overlaid_step, overlaid_end}
 use Rattle.cells.proofs.arrangement.cells_of.Goals as goal
 
 pub loop-k-init : goal.loop-k-init

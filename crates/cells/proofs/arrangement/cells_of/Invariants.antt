@@ -1,13 +1,10 @@
-use borrow.Author.Rules.{rules}
-use mathlib.Core.Path.{◌≡◌, refl, ap, sym, ◌∙◌}
-use native.Mathlib.Omega.{arith}
-use Prim.Native.Nat.{ℕ, ◌+◌, ◌-◌, ◌≤◌}
-use mathlib.Core.List.{List, ◌∷◌, ◌++◌}
-use lib.ListN.{length, take, drop, length-set}
+use mathlib.Core.Path.{◌≡◌}
+use Prim.Native.Nat.{◌-◌, ◌≤◌}
+use mathlib.Core.List.{◌++◌}
+use lib.ListN.{length, take, drop}
 use Rattle.spec.specs.State.{arrangement_of}
 use Rattle.motion.specs.Tables.{on_vertices}
-use Rattle.motion.specs.Across.{arrangement_length, arrangement_next}
-use Rattle.cells.specs.Cells.{overlaid, overlaid_step, overlaid_end}
+use Rattle.cells.specs.Cells.{overlaid}
 use Rattle.cells.proofs.arrangement.cells_of.Given as goal
 
 abbrev pub invariant-loop-k : goal.invariant-loop-k

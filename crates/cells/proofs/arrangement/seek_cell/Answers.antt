@@ -1,9 +1,6 @@
 use borrow.Author.Rules.{rules}
 use native.Mathlib.Omega.{arith}
-use Prim.Native.Nat.{◌+◌, ◌-◌, ◌≤◌}
-use mathlib.Core.Path.{◌≡◌, ◌∙◌}
-use lib.ListN.{length, drop}
-use Rattle.spec.specs.Arrangement.{seek}
+use mathlib.Core.Path.{◌∙◌}
 use Rattle.cells.specs.Cells.{seek_at, seek_past, seek_end}
 use Rattle.cells.proofs.arrangement.seek_cell.Goals as goal
 

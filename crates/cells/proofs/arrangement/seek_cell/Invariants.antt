@@ -1,10 +1,7 @@
-use borrow.Author.Rules.{rules}
-use native.Mathlib.Omega.{arith}
 use Prim.Native.Nat.{◌+◌, ◌-◌, ◌≤◌}
-use mathlib.Core.Path.{◌≡◌, ◌∙◌}
+use mathlib.Core.Path.{◌≡◌}
 use lib.ListN.{length, drop}
 use Rattle.spec.specs.Arrangement.{seek}
-use Rattle.cells.specs.Cells.{seek_at, seek_past, seek_end}
 use Rattle.cells.proofs.arrangement.seek_cell.Given as goal
 
 abbrev pub invariant-loop-i : goal.invariant-loop-i

@@ -1,6 +1,5 @@
-use mathlib.Core.Path.{◌≡◌, refl, ap, sym, ◌∙◌}
+use mathlib.Core.Path.{sym}
 use lib.ListN.{get_or-eq_default}
-use borrow.Author.Rules.{rules}
 use Rattle.cells.proofs.arrangement.vertex_at.Goals as goal
 
 pub returns : goal.returns

@@ -1,11 +1,9 @@
-use borrow.Author.Rules.{rules}
 use Prim.Native.Nat.{◌-◌, ◌≤◌}
-use mathlib.Core.Path.{◌≡◌, refl, ◌∙◌}
+use mathlib.Core.Path.{◌≡◌}
 use lib.ListN.{length, drop}
 use Rattle.spec.specs.Arrangement.{full}
 use Rattle.spec.specs.State.{arrangement_of}
 use Rattle.motion.specs.Tables.{on_vertices}
-use Rattle.cells.specs.Reading.{full_stops, full_on, full_over}
 use Rattle.cells.proofs.reading.is_full.Given as goal
 
 abbrev pub invariant-loop-i : goal.invariant-loop-i

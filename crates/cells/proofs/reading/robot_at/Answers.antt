@@ -1,4 +1,3 @@
-use borrow.Author.Rules.{rules}
 use Rattle.motion.specs.Tables.{on_vertices}
 use Rattle.cells.specs.Reading.{robot_here, robot_past}
 use Rattle.cells.proofs.reading.robot_at.Goals as goal

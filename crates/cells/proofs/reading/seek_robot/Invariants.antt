@@ -1,12 +1,9 @@
-use borrow.Author.Rules.{rules}
-use native.Mathlib.Omega.{arith}
 use Prim.Native.Nat.{◌+◌, ◌-◌, ◌≤◌}
-use mathlib.Core.Path.{◌≡◌, ◌∙◌}
+use mathlib.Core.Path.{◌≡◌}
 use lib.ListN.{length, drop}
 use Rattle.spec.specs.Arrangement.{seek}
 use Rattle.spec.specs.State.{arrangement_of, cell_of}
 use Rattle.motion.specs.Tables.{on_vertices}
-use Rattle.cells.specs.Reading.{seek_here, seek_further, seek_none}
 use Rattle.cells.proofs.reading.seek_robot.Given as goal
 
 abbrev pub invariant-loop-i : goal.invariant-loop-i

@@ -1,4 +1,3 @@
-use borrow.Author.Rules.{rules}
 use Rattle.cells.specs.Reading.{stands_not, stands_is}
 use Rattle.cells.proofs.reading.stands.Goals as goal
 

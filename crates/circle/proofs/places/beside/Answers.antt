@@ -1,4 +1,3 @@
-use borrow.Author.Rules.{rules}
 use mathlib.Core.Path.{sym, ◌∙◌}
 use Rattle.circle.specs.Places.{beside_on, beside_back}
 use Rattle.circle.proofs.places.beside.Goals as goal

@@ -1,18 +1,17 @@
 use borrow.Author.Rules.{rules}
 use native.Mathlib.Omega.{arith}
-use Prim.Native.Nat.{ℕ, ◌+◌, ◌-◌, ◌≤◌, ◌<◌}
+use Prim.Native.Nat.{ℕ, ◌+◌, ◌-◌, ◌<◌}
 use mathlib.Core.Path.{◌≡◌, refl, ap, sym, ◌∙◌}
 use mathlib.Core.Bool.{false}
 use lib.ListN.{length, get_or}
-use Rattle.spec.specs.Arrangement.{mv}
 use Rattle.spec.specs.Ring.{wrap}
-use Rattle.spec.specs.State.{robot_on, across, across_move}
+use Rattle.spec.specs.State.{robot_on, across}
 use Rattle.motion.specs.Tables.{on_vertices}
 use Rattle.motion.specs.World.{world_in, made, made_all, made_none}
 use Rattle.motion.specs.Across.{across_nil, across_move_lem}
 use Rattle.circle.specs.Places.{previous_place, next_place, beside_back, wrap_in, wrap_under, wrap_next, wrap_previous}
-use Rattle.circle.specs.Runs.{run_at, run_from, run_on, run_stops, run_round, run_robot}
-use Rattle.circle.specs.Pushes.{push_from, push_none, push_all, push_step, Unmoved, unmoved_all, unmoved_behind}
+use Rattle.circle.specs.Runs.{run_at, run_on, run_stops, run_round, run_robot}
+use Rattle.circle.specs.Pushes.{push_from, push_none, push_all, push_step, unmoved_all, unmoved_behind}
 use Rattle.numbering.specs.declared.Robot.{Robot}
 use Rattle.circle.proofs.pushing.push.Goals as goal
 use Rattle.circle.proofs.pushing.push.Goals.{then-k-m, else-k-m+then-r, then-k-eq0, else-k-eq0}
@@ -51,10 +50,10 @@ loop-k-2-init c =
     let h : a.p < length z = search rules in
     let s = on_vertices a.robots.now in
     elim c.if-k-m.branch [
-      then-k-m w ↦
+      | then-k-m w ↦
           let n : o.k ≡ length (run_at s z a.p) = run_round s z a.p h o.k (omega (arith, w.if-k-m.true)) ∙ o.invariant.3 in
           (refl, refl, refl, refl, o.invariant.1, omega arith, w.end-is ∙ o.invariant.2, made_none _ _ (ap (across z) (push_none s z a.p o.k (omega arith)) ∙ across_nil z), unmoved_all s z a.p o.k)
-    | else-k-m+then-r w ↦
+      | else-k-m+then-r w ↦
           let l : o.k < length z = omega (arith, w.if-k-m.false) in
           let e : w.robot_on-r.result.0 ≡ robot_on s (get_or z (wrap (length z) (a.p + o.k)) 0) = w.robot_on-r.ensures ∙ ap (robot_on s) (w.vertex_at-v.ensures ∙ ap (λ (i : ℕ). get_or z i 0) o.invariant.2) in
           let n : o.k ≡ length (run_at s z a.p) = run_stops s z a.p h o.k w.robot_on-r.result.0 l e w.if-r.true ∙ o.invariant.3 in
@@ -84,8 +83,8 @@ loop-k-2-preserved c =
     let t : c.vertex_at-w.result.0 ≡ get_or z (wrap m (a.p + (k + 1))) 0 = c.vertex_at-w.ensures ∙ ap (λ (i : ℕ). get_or z i 0) b in
     let e : c.if-k-eq0.r.0 ≡ robot_on s (get_or z (wrap m (a.p + k)) 0) =
     elim c.if-k-eq0.branch [
-      then-k-eq0 w ↦ ap (λ (x : Robot). x.0) w.r-is ∙ c.robot_on-first.ensures ∙ ap (robot_on s) (c.vertex_at.ensures ∙ ap (λ (i : ℕ). get_or z i 0) (sym (wrap_in m a.p h) ∙ ap (λ (i : ℕ). wrap m (a.p + i)) (sym w.if-k-eq0.true)))
-    | else-k-eq0 w ↦ ap (λ (x : Robot). x.0) w.r-is ∙ c.robot_on-r-in-loop-k-2.ensures ∙ ap (robot_on (on_vertices o.robots)) v ∙ o.invariant.8.stays k (omega (arith, w.if-k-eq0.false)) (omega arith)
+      | then-k-eq0 w ↦ ap (λ (x : Robot). x.0) w.r-is ∙ c.robot_on-first.ensures ∙ ap (robot_on s) (c.vertex_at.ensures ∙ ap (λ (i : ℕ). get_or z i 0) (sym (wrap_in m a.p h) ∙ ap (λ (i : ℕ). wrap m (a.p + i)) (sym w.if-k-eq0.true)))
+      | else-k-eq0 w ↦ ap (λ (x : Robot). x.0) w.r-is ∙ c.robot_on-r-in-loop-k-2.ensures ∙ ap (robot_on (on_vertices o.robots)) v ∙ o.invariant.8.stays k (omega (arith, w.if-k-eq0.false)) (omega arith)
     ] in
     let r : c.if-k-eq0.r.0 ≡ get_or (run_at s z a.p) k 0 = run_robot s z a.p h k c.if-k-eq0.r.0 (omega arith) l e in (
       search rules,

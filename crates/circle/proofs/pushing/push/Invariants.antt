@@ -1,19 +1,12 @@
-use borrow.Author.Rules.{rules}
-use native.Mathlib.Omega.{arith}
-use Prim.Native.Nat.{ℕ, ◌+◌, ◌-◌, ◌≤◌, ◌<◌}
-use mathlib.Core.Path.{◌≡◌, refl, ap, sym, ◌∙◌}
-use mathlib.Core.Logic.{⊎_elim}
-use mathlib.Core.Bool.{false}
-use lib.ListN.{length, get_or}
-use Rattle.spec.specs.Arrangement.{mv}
+use Prim.Native.Nat.{◌+◌, ◌-◌, ◌≤◌}
+use mathlib.Core.Path.{◌≡◌}
+use lib.ListN.{length}
 use Rattle.spec.specs.Ring.{wrap}
-use Rattle.spec.specs.State.{robot_on, across, across_move}
+use Rattle.spec.specs.State.{across}
 use Rattle.motion.specs.Tables.{on_vertices}
-use Rattle.motion.specs.World.{world_in, made, made_all, made_none}
-use Rattle.motion.specs.Across.{across_nil, across_move_lem}
-use Rattle.circle.specs.Places.{previous_place, next_place, beside_back, wrap_in, wrap_under, wrap_next, wrap_previous}
-use Rattle.circle.specs.Runs.{run_at, run_from, run_on, run_stops, run_round, run_robot}
-use Rattle.circle.specs.Pushes.{push_from, push_none, push_all, push_step, Unmoved, unmoved_all, unmoved_behind}
+use Rattle.motion.specs.World.{world_in, made_all}
+use Rattle.circle.specs.Runs.{run_at, run_from}
+use Rattle.circle.specs.Pushes.{push_from, Unmoved}
 use Rattle.circle.proofs.pushing.push.Given as goal
 
 abbrev pub invariant-loop-k : goal.invariant-loop-k

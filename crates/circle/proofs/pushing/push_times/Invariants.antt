@@ -1,15 +1,10 @@
-use borrow.Author.Rules.{rules}
-use native.Mathlib.Omega.{arith}
-use Prim.Native.Nat.{◌≤◌, ◌<◌}
-use mathlib.Core.Path.{◌≡◌, refl, ◌∙◌}
+use Prim.Native.Nat.{◌<◌}
+use mathlib.Core.Path.{◌≡◌}
 use lib.ListN.{length}
 use Rattle.spec.specs.Ring.{pushes}
 use Rattle.spec.specs.State.{arrangement_of, across}
 use Rattle.motion.specs.Tables.{on_vertices}
 use Rattle.motion.specs.World.{world_in, made_all}
-use Rattle.motion.specs.Coupling.{Listed}
-use Rattle.circle.specs.Places.{next_under}
-use Rattle.circle.specs.Pushes.{pushes_step, pushes_done}
 use Rattle.circle.proofs.pushing.push_times.Given as goal
 
 abbrev pub invariant-loop-left : goal.invariant-loop-left

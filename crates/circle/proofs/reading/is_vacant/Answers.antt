@@ -1,11 +1,7 @@
 use borrow.Author.Rules.{rules}
-use native.Mathlib.Omega.{arith}
-use Prim.Native.Nat.{◌+◌, ◌-◌, ◌≤◌, ◌<◌, suc}
-use mathlib.Core.Path.{◌≡◌, refl, sym, ◌∙◌}
-use lib.ListN.{length, drop}
-use Rattle.spec.specs.State.{arrangement_of}
+use mathlib.Core.Path.{refl, ◌∙◌}
 use Rattle.motion.specs.Tables.{on_vertices}
-use Rattle.circle.specs.Reading.{vacant, vacant_stops, vacant_on, vacant_over}
+use Rattle.circle.specs.Reading.{vacant_stops, vacant_on, vacant_over}
 use Rattle.circle.proofs.reading.is_vacant.Goals as goal
 
 pub loop-i-init : goal.loop-i-init

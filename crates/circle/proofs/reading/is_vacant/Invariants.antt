@@ -1,11 +1,9 @@
-use borrow.Author.Rules.{rules}
-use native.Mathlib.Omega.{arith}
-use Prim.Native.Nat.{◌+◌, ◌-◌, ◌≤◌, ◌<◌, suc}
-use mathlib.Core.Path.{◌≡◌, refl, sym, ◌∙◌}
+use Prim.Native.Nat.{◌-◌, ◌≤◌}
+use mathlib.Core.Path.{◌≡◌}
 use lib.ListN.{length, drop}
 use Rattle.spec.specs.State.{arrangement_of}
 use Rattle.motion.specs.Tables.{on_vertices}
-use Rattle.circle.specs.Reading.{vacant, vacant_stops, vacant_on, vacant_over}
+use Rattle.circle.specs.Reading.{vacant}
 use Rattle.circle.proofs.reading.is_vacant.Given as goal
 
 abbrev pub invariant-loop-i : goal.invariant-loop-i

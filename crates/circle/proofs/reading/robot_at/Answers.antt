@@ -1,4 +1,3 @@
-use borrow.Author.Rules.{rules}
 use mathlib.Core.Path.{ap, ◌∙◌}
 use Rattle.spec.specs.State.{robot_on}
 use Rattle.motion.specs.Tables.{on_vertices}

@@ -1,5 +1,4 @@
 use mathlib.Core.Path.{refl}
-use borrow.Author.Tests.{not-true, not-false}
 use Rattle.zoning.specs.Fault.{not_both}
 use Rattle.edging.specs.Edges.{uncovered, count_cut, count_read}
 use Rattle.edging.proofs.edges.before_count.Goals as goal

@@ -1,8 +1,7 @@
-use borrow.Author.Rules.{rules}
 use native.Mathlib.Omega.{arith}
-use Prim.Native.Nat.{◌+◌, ◌-◌, ◌<◌, ◌≤◌}
-use mathlib.Core.Path.{refl, sym, ◌∙◌}
-use borrow.Author.Tests.{not-true, not-false, ltb-true}
+use Prim.Native.Nat.{◌+◌, ◌<◌, ◌≤◌}
+use mathlib.Core.Path.{sym, ◌∙◌}
+use borrow.Author.Tests.{ltb-true}
 use Rattle.wire.specs.Payload.{word_at}
 use Rattle.edging.specs.Edges.{count_refused, edges_many, edges_fault, edges_surplus, edges_whole}
 use Rattle.edging.proofs.edges.edges_of.Goals as goal

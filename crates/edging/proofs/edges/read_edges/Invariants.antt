@@ -1,10 +1,7 @@
-use borrow.Author.Rules.{rules}
-use native.Mathlib.Omega.{arith}
-use Prim.Native.Nat.{ℕ, ◌+◌, ◌-◌, ◌*◌, ◌<◌, ◌≤◌}
-use mathlib.Core.Path.{◌≡◌, refl, ap, ◌∙◌}
-use lib.ListN.{get_or, get_or-eq_default}
+use Prim.Native.Nat.{◌+◌, ◌-◌, ◌*◌, ◌≤◌}
+use mathlib.Core.Path.{◌≡◌}
 use Rattle.wire.specs.Payload.{place_of}
-use Rattle.edging.specs.Edges.{GoingEdges, edges_start, edges_short, edges_half, edges_order, edges_over, edges_again, edges_good, edges_end, edges_refused}
+use Rattle.edging.specs.Edges.{GoingEdges}
 use Rattle.edging.proofs.edges.read_edges.Given as goal
 
 abbrev pub invariant-loop-k : goal.invariant-loop-k

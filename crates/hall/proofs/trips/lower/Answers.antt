@@ -1,11 +1,10 @@
 use borrow.Author.Rules.{rules}
-use Prim.Native.Nat.{◌-◌, ◌≤◌}
-use mathlib.Core.Path.{◌≡◌, refl, ap, ◌∙◌}
-use lib.ListN.{length}
+use Prim.Native.Nat.{◌-◌}
+use mathlib.Core.Path.{refl, ap, ◌∙◌}
 use Rattle.spec.specs.Arrangement.{mv}
 use Rattle.spec.specs.State.{across}
 use Rattle.spec.specs.Hall.{down}
-use Rattle.motion.specs.World.{world_in, made, made_all, made_none}
+use Rattle.motion.specs.World.{world_in, made, made_none}
 use Rattle.motion.specs.Across.{across_move_lem, across_nil, made_more}
 use Rattle.hall.specs.Trips.{down_more, down_done}
 use Rattle.hall.proofs.trips.lower.Goals as goal

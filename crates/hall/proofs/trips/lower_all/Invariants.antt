@@ -1,15 +1,10 @@
-use borrow.Author.Rules.{rules}
-use native.Mathlib.Omega.{arith}
-use Prim.Native.Nat.{ℕ, ◌+◌, ◌-◌, ◌≤◌}
-use mathlib.Core.Path.{◌≡◌, refl, ap, sym, ◌∙◌}
-use lib.ListN.{length, get_or}
-use mathlib.Core.List.{List}
-use Rattle.spec.specs.Arrangement.{Move}
+use Prim.Native.Nat.{◌-◌, ◌≤◌}
+use mathlib.Core.Path.{◌≡◌}
+use lib.ListN.{length}
 use Rattle.spec.specs.State.{across}
-use Rattle.spec.specs.Hall.{down, lowering}
-use Rattle.motion.specs.World.{world_in, made_all, made_none}
-use Rattle.motion.specs.Across.{across_nil, made_both}
-use Rattle.hall.specs.Trips.{trips_from, lowering_more, lowering_done}
+use Rattle.spec.specs.Hall.{lowering}
+use Rattle.motion.specs.World.{world_in, made_all}
+use Rattle.hall.specs.Trips.{trips_from}
 use Rattle.hall.proofs.trips.lower_all.Given as goal
 
 abbrev pub invariant-loop-i : goal.invariant-loop-i

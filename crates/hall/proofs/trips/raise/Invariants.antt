@@ -1,13 +1,9 @@
-use borrow.Author.Rules.{rules}
-use Prim.Native.Nat.{◌+◌, ◌-◌, ◌≤◌}
-use mathlib.Core.Path.{◌≡◌, refl, ap, ◌∙◌}
+use Prim.Native.Nat.{◌-◌, ◌≤◌}
+use mathlib.Core.Path.{◌≡◌}
 use lib.ListN.{length}
-use Rattle.spec.specs.Arrangement.{mv}
 use Rattle.spec.specs.State.{across}
 use Rattle.spec.specs.Hall.{up}
-use Rattle.motion.specs.World.{world_in, made, made_all, made_none}
-use Rattle.motion.specs.Across.{across_move_lem, across_nil, made_more}
-use Rattle.hall.specs.Trips.{up_more, up_done}
+use Rattle.motion.specs.World.{world_in, made_all}
 use Rattle.hall.proofs.trips.raise.Given as goal
 
 abbrev pub invariant-loop-at : goal.invariant-loop-at

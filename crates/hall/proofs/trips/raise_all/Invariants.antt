@@ -1,15 +1,10 @@
-use borrow.Author.Rules.{rules}
-use native.Mathlib.Omega.{arith}
-use Prim.Native.Nat.{ℕ, ◌+◌, ◌-◌, ◌≤◌}
-use mathlib.Core.Path.{◌≡◌, refl, ap, sym, ◌∙◌}
-use lib.ListN.{length, get_or}
-use mathlib.Core.List.{List}
-use Rattle.spec.specs.Arrangement.{Move}
+use Prim.Native.Nat.{◌≤◌}
+use mathlib.Core.Path.{◌≡◌}
+use lib.ListN.{length}
 use Rattle.spec.specs.State.{across}
-use Rattle.spec.specs.Hall.{up, raising}
-use Rattle.motion.specs.World.{world_in, made_all, made_none}
-use Rattle.motion.specs.Across.{across_nil, made_both}
-use Rattle.hall.specs.Trips.{trips_from, raising_more, raising_done}
+use Rattle.spec.specs.Hall.{raising}
+use Rattle.motion.specs.World.{world_in, made_all}
+use Rattle.hall.specs.Trips.{trips_from}
 use Rattle.hall.proofs.trips.raise_all.Given as goal
 
 abbrev pub invariant-loop-left : goal.invariant-loop-left

@@ -1,4 +1,3 @@
-use borrow.Author.Rules.{rules}
 use mathlib.Core.Path.{◌∙◌}
 use Rattle.spec.specs.Hall.{lowering, raising, hall_moves}
 use Rattle.motion.specs.World.{world_in}

@@ -1,7 +1,4 @@
-use borrow.Author.Rules.{rules}
-use Prim.Native.Nat.{◌-◌}
 use mathlib.Core.Path.{sym, ◌∙◌}
-use borrow.Author.Tests.{not-true, not-false}
 use Rattle.zoning.specs.Fault.{given}
 use Rattle.zoning.specs.Bytes.{held}
 use Rattle.zoning.specs.Heads.{counts_in, counts_range}

@@ -1,6 +1,4 @@
-use borrow.Author.Rules.{rules}
 use mathlib.Core.Path.{sym, ◌∙◌}
-use borrow.Author.Tests.{not-true, not-false}
 use Rattle.layout.specs.Map.{read_is, cleared_is}
 use Rattle.layout.proofs.map.read_map.Goals as goal
 

@@ -1,7 +1,4 @@
-use borrow.Author.Rules.{rules}
-use Prim.Native.Nat.{◌-◌}
 use mathlib.Core.Path.{sym, ◌∙◌}
-use borrow.Author.Tests.{not-true, not-false}
 use Rattle.layout.specs.Rest.{map_at, edges_in, rest_refused, rest_ready, rest_tested}
 use Rattle.layout.proofs.map.read_rest.Goals as goal
 

@@ -1,4 +1,3 @@
-use Prim.Native.Nat.{◌-◌}
 use mathlib.Core.Path.{refl}
 use Rattle.layout.specs.Map.{none_held}
 use Rattle.layout.proofs.map.refused.Goals as goal

@@ -1,13 +1,7 @@
 use borrow.Author.Rules.{rules}
 use native.Mathlib.Omega.{arith}
-use Prim.Native.Nat.{◌-◌, ◌≤◌}
-use mathlib.Core.Path.{◌≡◌, refl, sym, ◌∙◌}
-use lib.ListN.{drop}
-use borrow.Author.Tests.{not-true, not-false}
-use Rattle.spec.specs.Layout.{Map, kinds_from}
-use Rattle.zoning.specs.Zones.{zones_in}
-use Rattle.zoning.specs.Found.{heads_of}
-use Rattle.layout.specs.Kinds.{Ready, kinds_bad, kinds_good, kinds_all}
+use mathlib.Core.Path.{refl, sym, ◌∙◌}
+use Rattle.layout.specs.Kinds.{kinds_bad, kinds_good, kinds_all}
 use Rattle.layout.proofs.map.test_kinds.Goals as goal
 
 pub loop-i-init : goal.loop-i-init

@@ -1,13 +1,10 @@
-use borrow.Author.Rules.{rules}
-use native.Mathlib.Omega.{arith}
 use Prim.Native.Nat.{◌-◌, ◌≤◌}
-use mathlib.Core.Path.{◌≡◌, refl, sym, ◌∙◌}
+use mathlib.Core.Path.{◌≡◌}
 use lib.ListN.{drop}
-use borrow.Author.Tests.{not-true, not-false}
 use Rattle.spec.specs.Layout.{Map, kinds_from}
 use Rattle.zoning.specs.Zones.{zones_in}
 use Rattle.zoning.specs.Found.{heads_of}
-use Rattle.layout.specs.Kinds.{Ready, kinds_bad, kinds_good, kinds_all}
+use Rattle.layout.specs.Kinds.{Ready}
 use Rattle.layout.proofs.map.test_kinds.Given as goal
 
 abbrev pub invariant-loop-i : goal.invariant-loop-i

@@ -1,6 +1,4 @@
-use borrow.Author.Rules.{rules}
 use native.Mathlib.Omega.{arith}
-use Prim.Native.Nat.{◌-◌}
 use Rattle.layout.specs.Tables.{entry_in_lem, entry_out}
 use Rattle.layout.proofs.tables.place_of.Goals as goal
 

@@ -1,4 +1,3 @@
-use borrow.Author.Rules.{rules}
 use native.Mathlib.Omega.{arith}
 use Rattle.lineup.specs.Goals.{goal_below, goal_on, goal_above}
 use Rattle.lineup.proofs.goals.goal.Goals as goal

@@ -1,10 +1,7 @@
-use borrow.Author.Rules.{rules}
-use native.Mathlib.Omega.{arith}
-use Prim.Native.Nat.{ℕ, ◌+◌, ◌-◌, ◌≤◌}
-use mathlib.Core.Path.{◌≡◌, ap, sym, ◌∙◌}
+use Prim.Native.Nat.{◌+◌, ◌-◌, ◌≤◌}
+use mathlib.Core.Path.{◌≡◌}
 use lib.Seq.{slice}
 use Rattle.spec.specs.Outcome.{index_of}
-use Rattle.lineup.specs.Goals.{index_here, index_past, index_none}
 use Rattle.lineup.proofs.goals.index_of.Given as goal
 
 abbrev pub invariant-loop-i : goal.invariant-loop-i

@@ -1,4 +1,3 @@
-use borrow.Author.Rules.{rules}
 use native.Mathlib.Omega.{arith}
 use lib.ListN.{take}
 use Rattle.lineup.specs.Goals.{lower_none, lower_named}

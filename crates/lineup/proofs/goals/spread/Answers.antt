@@ -1,9 +1,9 @@
 use borrow.Author.Rules.{rules}
 use native.Mathlib.Omega.{arith}
-use Prim.Native.Nat.{ℕ, ◌+◌, ◌-◌, ◌≤◌}
+use Prim.Native.Nat.{ℕ, ◌+◌}
 use mathlib.Core.Path.{◌≡◌, refl, ap, sym, ◌∙◌}
 use mathlib.Core.List.{List, ◌∷◌, ◌++◌, append-nil}
-use lib.ListN.{length, take, length-set}
+use lib.ListN.{take, length-set}
 use lib.Seq.{slice}
 use Rattle.lineup.specs.Line.{stored}
 use Rattle.lineup.specs.Goals.{goals_from, goals_more, goals_done}

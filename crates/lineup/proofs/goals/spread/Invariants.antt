@@ -1,12 +1,9 @@
-use borrow.Author.Rules.{rules}
-use native.Mathlib.Omega.{arith}
-use Prim.Native.Nat.{ℕ, ◌+◌, ◌-◌, ◌≤◌}
-use mathlib.Core.Path.{◌≡◌, refl, ap, sym, ◌∙◌}
-use mathlib.Core.List.{List, ◌∷◌, ◌++◌, append-nil}
-use lib.ListN.{length, take, length-set}
+use Prim.Native.Nat.{◌-◌, ◌≤◌}
+use mathlib.Core.Path.{◌≡◌}
+use mathlib.Core.List.{◌++◌}
+use lib.ListN.{length, take}
 use lib.Seq.{slice}
-use Rattle.lineup.specs.Line.{stored}
-use Rattle.lineup.specs.Goals.{goals_from, goals_more, goals_done}
+use Rattle.lineup.specs.Goals.{goals_from}
 use Rattle.lineup.proofs.goals.spread.Given as goal
 
 abbrev pub invariant-loop-i : goal.invariant-loop-i

@@ -1,11 +1,9 @@
 use borrow.Author.Rules.{rules}
 use native.Mathlib.Omega.{arith}
-use Prim.Native.Nat.{◌-◌, ◌≤◌}
-use mathlib.Core.Path.{◌≡◌, refl}
-use lib.ListN.{length, length-set}
-use Rattle.spec.specs.State.{arrangement_of}
+use mathlib.Core.Path.{refl}
+use lib.ListN.{length-set}
 use Rattle.motion.specs.Tables.{on_vertices}
-use Rattle.lineup.specs.Line.{Collected, collect_none, collect_robot, collect_empty, collect_all}
+use Rattle.lineup.specs.Line.{collect_none, collect_robot, collect_empty, collect_all}
 use Rattle.lineup.proofs.line.line_up.Goals as goal
 
 pub loop-k-init : goal.loop-k-init

@@ -1,11 +1,9 @@
-use borrow.Author.Rules.{rules}
-use native.Mathlib.Omega.{arith}
 use Prim.Native.Nat.{◌-◌, ◌≤◌}
-use mathlib.Core.Path.{◌≡◌, refl}
-use lib.ListN.{length, length-set}
+use mathlib.Core.Path.{◌≡◌}
+use lib.ListN.{length}
 use Rattle.spec.specs.State.{arrangement_of}
 use Rattle.motion.specs.Tables.{on_vertices}
-use Rattle.lineup.specs.Line.{Collected, collect_none, collect_robot, collect_empty, collect_all}
+use Rattle.lineup.specs.Line.{Collected}
 use Rattle.lineup.proofs.line.line_up.Given as goal
 
 abbrev pub invariant-loop-k : goal.invariant-loop-k

@@ -1,12 +1,9 @@
-use borrow.Author.Rules.{rules}
-use native.Mathlib.Omega.{arith}
-use Prim.Native.Nat.{ℕ, ◌+◌, ◌-◌, ◌≤◌}
-use mathlib.Core.Path.{◌≡◌, ap, ◌∙◌}
+use Prim.Native.Nat.{◌≤◌}
+use mathlib.Core.Path.{◌≡◌}
 use lib.ListN.{length, take, drop}
 use Rattle.spec.specs.State.{arrangement_of}
 use Rattle.motion.specs.Tables.{on_vertices}
 use Rattle.spec.specs.Arrangement.{last_named}
-use Rattle.reaching.specs.Reach.{behind_robot, behind_empty, behind_none, behind_least}
 use Rattle.reaching.proofs.reach.behind.Given as goal
 
 abbrev pub invariant-loop-k : goal.invariant-loop-k

@@ -1,9 +1,6 @@
-use borrow.Author.Rules.{rules}
 use native.Mathlib.Omega.{arith}
-use Prim.Native.Nat.{◌-◌}
-use lib.ListN.{length}
 use Rattle.motion.specs.Tables.{on_vertices}
-use Rattle.reaching.specs.Reach.{Walking, walk_start, walk_short, walk_end, walk_differ, walk_on}
+use Rattle.reaching.specs.Reach.{walk_start, walk_short, walk_end, walk_differ, walk_on}
 use Rattle.reaching.proofs.reach.can_end.Goals as goal
 
 pub loop-i-init : goal.loop-i-init

@@ -1,9 +1,8 @@
-use borrow.Author.Rules.{rules}
 use Prim.Native.Nat.{◌-◌, ◌≤◌}
 use lib.ListN.{length}
 use Rattle.spec.specs.State.{arrangement_of}
 use Rattle.motion.specs.Tables.{on_vertices}
-use Rattle.reaching.specs.Reach.{Counting, count_none, order_robot, order_empty, order_end, count_lower, count_named, count_after, count_empty, count_all}
+use Rattle.reaching.specs.Reach.{Counting}
 use Rattle.reaching.proofs.reach.count_robots.Given as goal
 
 abbrev pub invariant-loop-k : goal.invariant-loop-k

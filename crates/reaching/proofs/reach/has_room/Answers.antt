@@ -1,4 +1,3 @@
-use borrow.Author.Rules.{rules}
 use mathlib.Core.Path.{sym}
 use Rattle.reaching.specs.Reach.{room_below, room_above, room_outside}
 use Rattle.reaching.proofs.reach.has_room.Goals as goal

@@ -1,10 +1,6 @@
 use borrow.Author.Rules.{rules}
-use Prim.Native.Nat.{◌-◌, ◌≤◌}
-use mathlib.Core.Path.{◌≡◌, refl, sym, ◌∙◌}
-use lib.ListN.{length, drop}
-use Rattle.spec.specs.State.{arrangement_of}
+use mathlib.Core.Path.{refl, sym, ◌∙◌}
 use Rattle.motion.specs.Tables.{on_vertices}
-use Rattle.spec.specs.Arrangement.{order}
 use Rattle.reaching.specs.Reach.{order_empty, next_found, next_none}
 use Rattle.reaching.proofs.reach.next_robot.Goals as goal
 

@@ -1,11 +1,9 @@
-use borrow.Author.Rules.{rules}
 use Prim.Native.Nat.{◌-◌, ◌≤◌}
-use mathlib.Core.Path.{◌≡◌, refl, sym, ◌∙◌}
+use mathlib.Core.Path.{◌≡◌}
 use lib.ListN.{length, drop}
 use Rattle.spec.specs.State.{arrangement_of}
 use Rattle.motion.specs.Tables.{on_vertices}
 use Rattle.spec.specs.Arrangement.{order}
-use Rattle.reaching.specs.Reach.{order_empty, next_found, next_none}
 use Rattle.reaching.proofs.reach.next_robot.Given as goal
 
 abbrev pub invariant-loop-i : goal.invariant-loop-i

@@ -1,10 +1,10 @@
 use borrow.Author.Rules.{rules}
-use mathlib.Core.Path.{◌≡◌, refl, sym, ap, ◌∙◌}
+use mathlib.Core.Path.{◌≡◌, sym, ◌∙◌}
 use native.Mathlib.Omega.{arith}
 use Prim.Native.Nat.{◌≤◌}
 use lib.ListN.{length}
 use Rattle.replay.specs.Moves.{lent_tables}
-use Rattle.replay.specs.Check.{checked_none, checked_from, checked_refused, checked_surplus, checked_goals, off_some, off_none, legal_moves, all_moves, goals_from_lem, other_tag}
+use Rattle.replay.specs.Check.{checked_none, checked_from, checked_refused, checked_surplus, checked_goals, off_some, off_none, legal_moves, all_moves, goals_from_lem}
 use Rattle.replay.proofs.check.check_moves.Goals as goal
 
 pub returns-then-len-lt2 : goal.returns-then-len-lt2

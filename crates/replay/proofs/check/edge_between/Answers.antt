@@ -1,4 +1,3 @@
-use borrow.Author.Rules.{rules}
 use Rattle.adjacency.specs.Rows.{bit_in_lem}
 use Rattle.replay.proofs.check.edge_between.Goals as goal
 

@@ -1,10 +1,6 @@
 use borrow.Author.Rules.{rules}
-use mathlib.Core.Path.{◌≡◌, refl, sym, ◌∙◌}
-use Prim.Native.Nat.{◌≤◌, ◌-◌}
-use lib.ListN.{length, take, drop}
-use Rattle.spec.specs.Run.{on_goals}
+use mathlib.Core.Path.{refl, sym, ◌∙◌}
 use Rattle.replay.specs.Check.{goals_next, goals_off, goals_all}
-use native.Mathlib.Omega.{arith}
 use Rattle.replay.proofs.check.off_goal.Goals as goal
 
 pub loop-i-init : goal.loop-i-init

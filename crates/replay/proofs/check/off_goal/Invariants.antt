@@ -1,10 +1,7 @@
-use borrow.Author.Rules.{rules}
-use mathlib.Core.Path.{◌≡◌, refl, sym, ◌∙◌}
+use mathlib.Core.Path.{◌≡◌}
 use Prim.Native.Nat.{◌≤◌, ◌-◌}
 use lib.ListN.{length, take, drop}
 use Rattle.spec.specs.Run.{on_goals}
-use Rattle.replay.specs.Check.{goals_next, goals_off, goals_all}
-use native.Mathlib.Omega.{arith}
 use Rattle.replay.proofs.check.off_goal.Given as goal
 
 abbrev pub invariant-loop-i : goal.invariant-loop-i

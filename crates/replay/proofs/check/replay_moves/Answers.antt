@@ -1,13 +1,8 @@
 use borrow.Author.Rules.{rules}
-use mathlib.Core.Path.{◌≡◌, refl, sym, ap, ◌∙◌}
-use Prim.Native.Nat.{ℕ, ◌≤◌, ◌+◌, ◌-◌, ◌*◌}
-use lib.ListN.{length, take}
-use Rattle.spec.specs.Layout.{Map}
-use Rattle.adjacency.specs.Rows.{Shows}
-use Rattle.wire.specs.Payload.{payload, place_of}
-use Rattle.motion.specs.Tables.{tabled}
-use Rattle.replay.specs.Moves.{Replayed, replay_start, three_move_lem}
-use Rattle.replay.specs.Check.{fault_at, replay_short, replay_refused, replay_next, replay_all}
+use mathlib.Core.Path.{◌≡◌, refl}
+use Prim.Native.Nat.{ℕ, ◌+◌, ◌*◌}
+use Rattle.replay.specs.Moves.{replay_start, three_move_lem}
+use Rattle.replay.specs.Check.{replay_short, replay_refused, replay_next, replay_all}
 use native.Mathlib.Omega.{arith}
 use Rattle.replay.proofs.check.replay_moves.Goals as goal
 

@@ -1,14 +1,11 @@
-use borrow.Author.Rules.{rules}
-use mathlib.Core.Path.{◌≡◌, refl, sym, ap, ◌∙◌}
-use Prim.Native.Nat.{ℕ, ◌≤◌, ◌+◌, ◌-◌, ◌*◌}
+use mathlib.Core.Path.{◌≡◌}
+use Prim.Native.Nat.{◌≤◌, ◌+◌, ◌-◌, ◌*◌}
 use lib.ListN.{length, take}
 use Rattle.spec.specs.Layout.{Map}
 use Rattle.adjacency.specs.Rows.{Shows}
 use Rattle.wire.specs.Payload.{payload, place_of}
 use Rattle.motion.specs.Tables.{tabled}
-use Rattle.replay.specs.Moves.{Replayed, replay_start, three_move_lem}
-use Rattle.replay.specs.Check.{fault_at, replay_short, replay_refused, replay_next, replay_all}
-use native.Mathlib.Omega.{arith}
+use Rattle.replay.specs.Moves.{Replayed}
 use Rattle.replay.proofs.check.replay_moves.Given as goal
 
 abbrev pub invariant-loop-i : goal.invariant-loop-i

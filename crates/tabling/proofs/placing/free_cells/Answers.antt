@@ -1,8 +1,8 @@
 use borrow.Author.Rules.{rules}
 use native.Mathlib.Omega.{arith}
-use Prim.Native.Nat.{ℕ, ◌-◌, ◌≤◌}
+use Prim.Native.Nat.{ℕ, ◌-◌}
 use mathlib.Core.Path.{◌≡◌, ap, ◌∙◌}
-use lib.ListN.{length, drop}
+use lib.ListN.{drop}
 use Rattle.tabling.specs.Places.{free_word, free_half, free_start, free_empty, free_taken}
 use Rattle.tabling.proofs.placing.free_cells.Goals as goal
 

@@ -1,9 +1,7 @@
-use borrow.Author.Rules.{rules}
-use native.Mathlib.Omega.{arith}
-use Prim.Native.Nat.{ℕ, ◌-◌, ◌≤◌}
-use mathlib.Core.Path.{◌≡◌, ap, ◌∙◌}
+use Prim.Native.Nat.{◌-◌, ◌≤◌}
+use mathlib.Core.Path.{◌≡◌}
 use lib.ListN.{length, drop}
-use Rattle.tabling.specs.Places.{free_word, free_half, free_start, free_empty, free_taken}
+use Rattle.tabling.specs.Places.{free_word}
 use Rattle.tabling.proofs.placing.free_cells.Given as goal
 
 abbrev pub invariant-loop-k : goal.invariant-loop-k

@@ -1,13 +1,9 @@
-use borrow.Author.Rules.{rules}
-use native.Mathlib.Omega.{arith}
-use Prim.Native.Nat.{ℕ, ◌-◌, ◌≤◌}
-use mathlib.Core.Path.{◌≡◌, ap, ◌∙◌}
+use Prim.Native.Nat.{◌-◌, ◌≤◌}
+use mathlib.Core.Path.{◌≡◌}
 use lib.ListN.{length, drop}
 use Rattle.spec.specs.State.{arrangement_of}
 use Rattle.motion.specs.Tables.{on_vertices}
-use Rattle.motion.specs.Across.{arrangement_length}
-use Rattle.tabling.specs.Places.{free_word, free_half, free_start, free_empty, free_taken}
-use Rattle.cells.specs.Reading.{empty_here, taken_here}
+use Rattle.tabling.specs.Places.{free_word}
 use Rattle.tabling.proofs.placing.free_word.Given as goal
 
 abbrev pub invariant-loop-k : goal.invariant-loop-k

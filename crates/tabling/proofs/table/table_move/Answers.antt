@@ -1,7 +1,6 @@
 use Prim.Native.Nat.{ℕ}
 use mathlib.Core.Path.{ap, ap₂, ◌∙◌}
 use lib.ListN.{get_or, set}
-use borrow.Author.Rules.{rules}
 use Rattle.tabling.proofs.table.table_move.Goals as goal
 
 pub index_of-k-requires : goal.index_of-k-requires

@@ -1,11 +1,9 @@
-use borrow.Author.Rules.{rules}
 use Prim.Native.Nat.{◌-◌, ◌≤◌}
-use mathlib.Core.Path.{◌≡◌, refl, ◌∙◌}
+use mathlib.Core.Path.{◌≡◌}
 use lib.ListN.{length, drop}
 use Rattle.spec.specs.Outcome.{same_list}
 use Rattle.spec.specs.State.{arrangement_of}
 use Rattle.motion.specs.Tables.{on_vertices}
-use Rattle.turned.specs.Comparing.{cells_on, cells_differ, cells_over}
 use Rattle.turned.proofs.comparing.same_cells.Given as goal
 
 abbrev pub invariant-loop-i : goal.invariant-loop-i

@@ -1,15 +1,11 @@
-use borrow.Author.Rules.{rules}
-use native.Mathlib.Omega.{arith}
-use Prim.Native.Nat.{ℕ, ◌-◌, ◌≤◌}
-use mathlib.Core.Path.{◌≡◌, refl, ap, sym, ◌∙◌}
-use lib.ListN.{length, get_or, drop}
+use Prim.Native.Nat.{◌-◌, ◌≤◌}
+use mathlib.Core.Path.{◌≡◌}
+use lib.ListN.{length, drop}
 use Rattle.spec.specs.Outcome.{same_list}
 use Rattle.spec.specs.Arrangement.{order}
 use Rattle.spec.specs.Ring.{frame}
-use Rattle.spec.specs.State.{robot_on, arrangement_of}
+use Rattle.spec.specs.State.{arrangement_of}
 use Rattle.motion.specs.Tables.{on_vertices}
-use Rattle.circle.specs.Runs.{frame_size}
-use Rattle.turned.specs.Comparing.{rounds_free, rounds_short, rounds_differ, rounds_on, rounds_over}
 use Rattle.turned.proofs.comparing.same_round.Given as goal
 
 abbrev pub invariant-loop-i : goal.invariant-loop-i

@@ -1,11 +1,9 @@
 use borrow.Author.Rules.{rules}
 use native.Mathlib.Omega.{arith}
-use Prim.Native.Nat.{ℕ, ◌-◌, ◌≤◌}
-use mathlib.Core.Path.{◌≡◌, refl, ap, ◌∙◌}
-use lib.ListN.{length, get_or, drop}
-use Rattle.spec.specs.Arrangement.{order}
-use Rattle.spec.specs.Ring.{frame}
-use Rattle.spec.specs.State.{robot_on, arrangement_of}
+use Prim.Native.Nat.{ℕ}
+use mathlib.Core.Path.{refl, ap, ◌∙◌}
+use lib.ListN.{get_or}
+use Rattle.spec.specs.State.{robot_on}
 use Rattle.motion.specs.Tables.{on_vertices}
 use Rattle.turned.specs.Comparing.{taken_on, taken_here, taken_over}
 use Rattle.turned.proofs.comparing.taken_from.Goals as goal

@@ -1,6 +1,5 @@
-use borrow.Author.Rules.{rules}
 use native.Mathlib.Omega.{arith}
-use mathlib.Core.Path.{sym, ◌∙◌}
+use mathlib.Core.Path.{◌∙◌}
 use Rattle.spec.specs.State.{arrangement_of}
 use Rattle.motion.specs.Tables.{on_vertices}
 use Rattle.motion.specs.Across.{arrangement_length}

@@ -1,5 +1,4 @@
-use borrow.Author.Rules.{rules}
-use mathlib.Core.Path.{ap, ap₂, sym, ◌∙◌}
+use mathlib.Core.Path.{ap₂, sym, ◌∙◌}
 use lib.Dec.{ltb}
 use Rattle.spec.specs.State.{arrangement_of}
 use Rattle.motion.specs.Tables.{on_vertices}

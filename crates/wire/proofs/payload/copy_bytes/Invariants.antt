@@ -1,10 +1,6 @@
-use borrow.Author.Rules.{rules}
-use native.Mathlib.Omega.{arith}
-use mathlib.Core.Path.{◌≡◌, refl}
+use mathlib.Core.Path.{◌≡◌}
 use Prim.Native.Nat.{ℕ, ◌-◌, ◌≤◌, ◌<◌}
-use lib.ListN.{length, get_or, length-set}
-use lib.Seq.{ext_get_or}
-use Rattle.wire.specs.Payload.{same_more}
+use lib.ListN.{length, get_or}
 use Rattle.wire.proofs.payload.copy_bytes.Given as goal
 
 abbrev pub invariant-loop-i : goal.invariant-loop-i

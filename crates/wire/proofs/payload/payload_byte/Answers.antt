@@ -3,7 +3,6 @@ use native.Mathlib.Omega.{arith}
 use mathlib.Core.Path.{sym}
 use lib.ListN.{get_or-eq_default}
 use Rattle.wire.specs.Payload.{place_of}
-use borrow.Author.Rules.{rules}
 use Rattle.wire.proofs.payload.payload_byte.Goals as goal
 
 pub returns-else-at-file : goal.returns-else-at-file

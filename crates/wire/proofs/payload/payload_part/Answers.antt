@@ -5,7 +5,7 @@ use Prim.Native.Nat.{ℕ, ◌+◌, ◌-◌, ◌*◌, ◌/◌, ◌%◌, ◌≤◌
 use borrow.Rule.Slice.PartMut.{same_len_mid}
 use lib.ListN.{length, take, drop, length-drop}
 use lib.Seq.{length-take-le}
-use Rattle.wire.specs.Payload.{place_of, Copied, copied_part, place_rest, part_within}
+use Rattle.wire.specs.Payload.{place_of, copied_part, place_rest, part_within}
 use Rattle.wire.proofs.payload.payload_part.Goals as goal
 
 pub loop-i-init : goal.loop-i-init

@@ -1,4 +1,3 @@
-use borrow.Author.Rules.{rules}
 use Prim.Native.Nat.{◌+◌}
 use Rattle.wire.specs.Payload.{three_read}
 use Rattle.wire.proofs.payload.three_apart.Goals as goal

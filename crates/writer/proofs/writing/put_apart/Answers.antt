@@ -4,7 +4,6 @@ use Prim.Native.Nat.{ℕ, ◌+◌}
 use mathlib.Core.Path.{◌≡◌, ap, sym, ◌∙◌}
 use mathlib.Core.List.{List, [], ◌∷◌}
 use Rattle.writer.specs.Laid.{laid, laid_out}
-use borrow.Author.Rules.{rules}
 use Rattle.writer.proofs.writing.put_apart.Goals as goal
 
 pub returns-then-off-out : goal.returns-then-off-out

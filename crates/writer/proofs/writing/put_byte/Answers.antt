@@ -1,6 +1,5 @@
 -- `put_byte`: the byte is stored, or its place is past the end.
 use lib.Seq.{set_out}
-use borrow.Author.Rules.{rules}
 use native.Mathlib.Omega.{arith}
 use mathlib.Core.Path.{sym}
 use Rattle.writer.proofs.writing.put_byte.Goals as goal

@@ -6,7 +6,6 @@ use mathlib.Core.List.{[], ◌∷◌}
 use lib.ListN.{length-set}
 use Rattle.wire.specs.Payload.{place_of}
 use Rattle.writer.specs.Laid.{laid_out, laid_three}
-use borrow.Author.Rules.{rules}
 use Rattle.writer.proofs.writing.put_three.Goals as goal
 
 -- `put_three`: the bytes stand side by side, or are laid one by one.

@@ -5,7 +5,6 @@ use lib.ListN.{length-set}
 use Prim.Native.Nat.{◌/◌, ◌%◌}
 use Rattle.spec.specs.Outcome.{u16}
 use Rattle.writer.specs.Laid.{laid_out, laid_two}
-use borrow.Author.Rules.{rules}
 use Rattle.writer.proofs.writing.put_word.Goals as goal
 
 -- `put_word`: the two bytes stand side by side, or are laid one by one.

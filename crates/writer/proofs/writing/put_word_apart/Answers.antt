@@ -5,7 +5,6 @@ use mathlib.Core.Path.{ap, sym, ◌∙◌}
 use mathlib.Core.List.{List}
 use Rattle.spec.specs.Outcome.{u16}
 use Rattle.writer.specs.Laid.{laid, laid_out}
-use borrow.Author.Rules.{rules}
 use Rattle.writer.proofs.writing.put_word_apart.Goals as goal
 
 pub returns-then-off-out : goal.returns-then-off-out

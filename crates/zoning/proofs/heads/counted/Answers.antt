@@ -1,4 +1,3 @@
-use Prim.Native.Nat.{◌-◌}
 use Rattle.zoning.specs.Heads.{counted_none, counted_some}
 use Rattle.zoning.proofs.heads.counted.Goals as goal
 

@@ -1,4 +1,3 @@
-use Prim.Native.Nat.{◌-◌}
 use Rattle.zoning.specs.Heads.{least_of, least_at, least_none}
 use Rattle.spec.specs.Outcome.{◌and◌}
 use Rattle.spec.specs.Layout.{least_size}

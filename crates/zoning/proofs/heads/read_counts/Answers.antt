@@ -1,9 +1,6 @@
-use borrow.Author.Rules.{rules}
 use native.Mathlib.Omega.{arith}
-use Prim.Native.Nat.{◌-◌}
 use mathlib.Core.Path.{sym, ◌∙◌}
 use Rattle.zoning.specs.Heads.{counts_short, counts_vertices, counts_end, counts_zones, counts_good}
-use borrow.Author.Tests.{not-true, not-false}
 use Rattle.zoning.proofs.heads.read_counts.Goals as goal
 
 pub returns-then-m-le0 : goal.returns-then-m-le0

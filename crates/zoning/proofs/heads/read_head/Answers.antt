@@ -1,6 +1,4 @@
-use borrow.Author.Rules.{rules}
 use native.Mathlib.Omega.{arith}
-use Prim.Native.Nat.{◌-◌}
 use mathlib.Core.Path.{◌≡◌, sym, ◌∙◌}
 use Rattle.zoning.specs.Heads.{least_of, head_short, head_kind, head_end, head_small, head_good}
 use Rattle.zoning.proofs.heads.read_head.Goals as goal

@@ -1,10 +1,6 @@
-use borrow.Author.Rules.{rules}
-use native.Mathlib.Omega.{arith}
-use Prim.Native.Nat.{ℕ, ◌+◌, ◌-◌, ◌≤◌, ◌<◌}
-use mathlib.Core.Path.{◌≡◌, refl, ap}
-use Rattle.zoning.specs.Fault.{not_both}
-use Rattle.zoning.specs.Table.{table_of, entry_same}
-use Rattle.zoning.specs.Vertices.{Going, space, going_start, going_more, going_short, going_over, going_twice, going_end}
+use Prim.Native.Nat.{◌+◌, ◌-◌, ◌≤◌}
+use Rattle.zoning.specs.Table.{table_of}
+use Rattle.zoning.specs.Vertices.{Going}
 use Rattle.zoning.proofs.zones.read_vertices.Given as goal
 
 abbrev pub invariant-loop-k : goal.invariant-loop-k

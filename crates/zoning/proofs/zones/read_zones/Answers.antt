@@ -1,14 +1,13 @@
 use borrow.Author.Rules.{rules}
 use native.Mathlib.Omega.{arith}
-use Prim.Native.Nat.{◌+◌, ◌-◌, ◌*◌, ◌≤◌}
+use Prim.Native.Nat.{◌+◌}
 use mathlib.Core.Path.{◌≡◌, refl, sym, ◌∙◌}
-use borrow.Author.Tests.{not-true, not-false}
 use Rattle.zoning.specs.Fault.{given}
 use Rattle.zoning.specs.Bytes.{held}
 use Rattle.zoning.specs.Heads.{head_in}
 use Rattle.zoning.specs.Table.{Table, seen, table_of}
 use Rattle.zoning.specs.Zones.{heads_at}
-use Rattle.zoning.specs.Reading.{GoingAll, all_head, all_vertices, all_more, all_start, all_end}
+use Rattle.zoning.specs.Reading.{all_head, all_vertices, all_more, all_start, all_end}
 use Rattle.zoning.specs.Found.{zones_read, zones_refused, all_held}
 use Rattle.zoning.proofs.zones.read_zones.Goals as goal
 
