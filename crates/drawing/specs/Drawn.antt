@@ -1,10 +1,10 @@
 -- How far the drawing of a plan has come: the steps of the moves that passed are laid, what is left laid from here is the whole.
-use Rattle.std.specs.Prelude.{◌≡◌, refl, ℕ, zero, suc, ◌+◌, ◌-◌, ◌*◌, ◌≤◌, ◌<◌, Bool, true, false, get_or, take, drop, set, eqb, leb}
+use Rattle.std.specs.Prelude.{◌≡◌, refl, ℕ, ◌+◌, ◌-◌, ◌≤◌, ◌<◌, Bool, true, false, get_or, take, drop, set, eqb, leb}
 use Rattle.std.proofs.Math.Path.{sym}
 use Rattle.std.proofs.Common.{ap, ap₂, ◌∙◌, length-set, length-drop, length-take-le, eq-eqb, ne_eqb, le-leb}
 use native.Mathlib.Omega.{arith}
 use Rattle.std.proofs.Math.Decide.{ℕ_discrete}
-use mathlib.Core.List.{List, [], ◌∷◌, ◌++◌}
+use mathlib.Core.List.{List, [], ◌∷◌}
 use Rattle.std.proofs.Math.ListN.{length, length-append}
 use Rattle.std.proofs.Math.Seq.{set_out}
 use Rattle.std.proofs.lemmas.Bool.{lt-leb}
@@ -19,7 +19,7 @@ use Rattle.zoning.specs.declared.MapFault.{MapFault}
 use Rattle.layout.specs.declared.MapRead.{MapRead}
 use Rattle.layout.specs.Map.{MapHeld}
 use Rattle.layout.specs.Tables.{entry_of, entry_is}
-use Rattle.writer.specs.Laid.{laid_all, laid_length, laid_append}
+use Rattle.writer.specs.Laid.{laid_all, laid_append}
 use Rattle.motion.specs.Tables.{tabled, on_vertices}
 use Rattle.drawing.specs.declared.Drawn.{Drawn}
 use Rattle.noting.specs.Follow.{followed, step_from}

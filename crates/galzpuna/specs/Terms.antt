@@ -1,15 +1,15 @@
 -- The terms of supply, of what the exported functions return: a contract says that the answer is the written meaning's, so the theorems about
 -- the meanings hold of it. Here r is what an exported function returns and o its buffer at exit.
-use Rattle.std.specs.Prelude.{◌≡◌, ℕ, ◌*◌, ◌≤◌, ◌<◌, ◌↔◌, ◌≢◌, List, [], length, take, replicate}
+use Rattle.std.specs.Prelude.{◌≡◌, ℕ, ◌≤◌, ◌↔◌, List, [], length, take}
 use Rattle.std.proofs.Common.{sym, ap, ◌∙◌}
 use Rattle.spec.specs.Outcome.{ok}
 use Rattle.spec.specs.Wire.{file_of}
 use Rattle.spec.specs.Arrangement.{Move}
 use Rattle.spec.specs.State.{Step, plan_payload}
-use Rattle.spec.specs.Services.{Instance, instance_of, plan_moves, judging, resolving, drawing, rounds}
+use Rattle.spec.specs.Services.{Instance, instance_of, plan_moves, judging, resolving, drawing}
 use Rattle.spec.specs.Terms as term
 use Rattle.theory.specs.Terms.Services.{zeroed}
-use Rattle.theory.proofs.Terms.Services.{cleared, complete, sound, resolves, round_trip, drawn, timed}
+use Rattle.theory.proofs.Terms.Services.{cleared, complete, sound, resolves, round_trip, drawn}
 use Rattle.galzpuna.specs.declared.Answer.{Answer}
 use Rattle.galzpuna.specs.Services.{answered}
 

@@ -1,15 +1,15 @@
 -- The lines as they are read from the files of moves and rounds, and how long they are.
 use Rattle.std.specs.Prelude.{ℕ, zero, suc, ◌+◌, ◌-◌, ◌*◌, ◌/◌, ◌%◌, ◌≤◌, ◌<◌, ◌≡◌, refl, List, [], ◌∷◌, ◌++◌, length, get_or, set, take, drop, replicate}
-use Rattle.std.proofs.Common.{sym, ap, ap₂, ◌∙◌, ⊎_elim, length-append, length-take, length-drop, get_or-append-add, get_or-take, get_or-drop, drop-drop, arith, add-zero}
+use Rattle.std.proofs.Common.{sym, ap, ap₂, ◌∙◌, ⊎_elim, length-append, length-take, length-drop, get_or-append-add, get_or-take, get_or-drop, drop-drop, arith}
 use Rattle.std.proofs.Math.ListN.{get_or-append}
 use Rattle.spec.specs.Outcome.{u16}
 use Rattle.spec.specs.Wire.{checksum, block_of, file_of}
 use Rattle.spec.specs.Arrangement.{Move, mv}
 use Rattle.spec.specs.State.{move_bytes, word_bytes}
 use Rattle.theory.specs.Codec.Words.{word_u16}
-use Rattle.wire.specs.Payload.{place_of, word_at, lt_or_ge}
+use Rattle.wire.specs.Payload.{place_of, lt_or_ge}
 use Rattle.answers.specs.Sealed.{up_to, up_length, file_up}
-use Rattle.replay.specs.Moves.{move_by, moves_by, bytes_of, file_bytes, moves_length, moves_next, moves_done}
+use Rattle.replay.specs.Moves.{move_by, moves_by, bytes_of}
 use Rattle.lines.specs.Text.{decimal, decimal_few, power, Put, put_none, put_one, put_then, put_as}
 use Rattle.lines.specs.Listing.{space, newline, field, line_of, lines_of}
 

@@ -1,15 +1,15 @@
 -- A map, a placing and a move list that are read and checked, and what the services are then.
-use Rattle.std.specs.Prelude.{◌≡◌, ◌⊎◌, Bool, true, false, List, [], ◌∷◌, ◌++◌, length, get_or, take, T, ltb, leb, eqb}
+use Rattle.std.specs.Prelude.{◌≡◌, ◌⊎◌, List, length, take}
 use Rattle.std.proofs.Math.Path.{refl}
-use Rattle.std.proofs.Common.{sym, ap, subst, ◌∙◌, ⊎_elim, arith, add-zero, length-take-le, ltb→lt, leb→le, eqb→eq}
+use Rattle.std.proofs.Common.{sym, ap, subst, ◌∙◌, ⊎_elim, arith, add-zero, length-take-le, ltb→lt, leb→le}
 use Rattle.std.proofs.Math.Logic.{inl, inr}
 use Prim.Native.Nat.{ℕ, zero, suc, ◌+◌, ◌*◌, ◌/◌, ◌≤◌, ◌<◌}
-use Rattle.spec.specs.Outcome.{Outcome, ok, refuse, ◌>>=◌, ◌>>◌, check, ◌and◌}
+use Rattle.spec.specs.Outcome.{Outcome, ok, refuse, ◌>>=◌}
 use Rattle.spec.specs.Wire.{payload_of}
-use Rattle.spec.specs.Layout.{Map, Placing, joined, map_of, placing_of}
-use Rattle.spec.specs.Arrangement.{Move, mv}
-use Rattle.spec.specs.State.{State, robot_on, standing, moved}
-use Rattle.spec.specs.Run.{count_of, moves_from, on_goals, checked_moves}
+use Rattle.spec.specs.Layout.{Map, Placing, map_of, placing_of}
+use Rattle.spec.specs.Arrangement.{Move}
+use Rattle.spec.specs.State.{State}
+use Rattle.spec.specs.Run.{moves_from, checked_moves}
 use Rattle.spec.specs.Services.{Instance, instance_of}
 use Rattle.spec.specs.Terms.{Bytes}
 use Rattle.theory.specs.Basics.Tests.{and_right}
@@ -33,7 +33,6 @@ use Rattle.checking.specs.declared.Checked.TheVariants.{Payload}
 use Rattle.replay.specs.Moves.{move_by, moves_by, bytes_of, file_bytes, moves_same, moves_length}
 use Rattle.drawing.specs.Drawn.{EndsOn}
 use Rattle.refusals.specs.Refusals.{refusal_or, moves_file, moves_list}
-use Rattle.refusals.specs.declared.Refusal.{Refusal}
 use Rattle.opening.specs.declared.Opened.{Opened}
 use Rattle.opening.specs.declared.Yard.{Yard}
 

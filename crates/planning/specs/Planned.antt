@@ -1,28 +1,24 @@
 -- A plan that is read and judged, or resolved.
-use Rattle.std.specs.Prelude.{◌≡◌, ℕ, zero, suc, ◌+◌, ◌*◌, ◌/◌, ◌≤◌, ◌<◌, ◌^◌, List, [], ◌∷◌, ◌++◌, length, get_or, take, drop, replicate, ◌⊎◌, Bool, true, false}
+use Rattle.std.specs.Prelude.{◌≡◌, ℕ, ◌*◌, ◌/◌, ◌≤◌, ◌<◌, List, [], length, get_or, take, drop, ◌⊎◌, Bool, true, false}
 use Rattle.std.proofs.Math.Path.{refl, sym, ap}
-use Rattle.std.proofs.Common.{ap₂, ◌∙◌, arith, inl, inr, ⊎_elim}
-use Rattle.spec.specs.Outcome.{Outcome, ok, refuse, ◌>>=◌, u16}
+use Rattle.std.proofs.Common.{◌∙◌, arith, inl, inr}
+use Rattle.spec.specs.Outcome.{Outcome, ok, refuse}
 use Rattle.spec.specs.Wire.{payload_of}
-use Rattle.spec.specs.Layout.{Map, Placing, Zone, zone_of, zone_at}
+use Rattle.spec.specs.Layout.{Zone, zone_at}
 use Rattle.spec.specs.Arrangement.{Move}
-use Rattle.spec.specs.State.{move_bytes, moves_payload}
+use Rattle.spec.specs.State.{move_bytes}
 use Rattle.spec.specs.Run.{resolved_moves}
 use Rattle.spec.specs.Services as meaning
-use Rattle.spec.specs.Terms.{Bytes, zone_count, kind_of, place_of}
+use Rattle.spec.specs.Terms.{Bytes, zone_count}
 use Rattle.theory.specs.Basics.Outcomes.{bind}
 use Rattle.theory.specs.Basics.Lists.{get_d_default}
 use Rattle.theory.specs.Codec.Written.{written_bytes}
-use Rattle.theory.specs.Maps.Placing.{Placed}
-use Rattle.theory.specs.Services.Places.{Small, small_payload, small_resolved}
-use Rattle.theory.specs.Bounds.{plan_bound}
+use Rattle.theory.specs.Services.Places.{small_payload, small_resolved}
 use Rattle.layout.specs.declared.MapRead.{MapRead}
 use Rattle.placing.specs.declared.PlacingRead.{PlacingRead}
 use Rattle.wire.specs.Payload.{payload}
 use Rattle.checking.specs.Checked.{Whole}
 use Rattle.writer.specs.Laid.{laid_all, laid_length}
-use Rattle.answers.specs.Delivered.{delivered_of, delivered_counted, delivered_over, fits_over}
-use Rattle.walking.specs.Tables.{Tables}
 use Rattle.walking.specs.Given.{Given, Placement, Cleared}
 use Rattle.resolve.specs.Whole.{ResolvedOr}
 use Rattle.testing.specs.Fault.{fault_of}

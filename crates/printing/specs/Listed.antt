@@ -1,28 +1,27 @@
 -- From what resolving and rounds answer to the listing.
-use Rattle.std.specs.Prelude.{ℕ, zero, suc, ◌+◌, ◌-◌, ◌*◌, ◌/◌, ◌≤◌, ◌<◌, ◌≡◌, ◌≢◌, get_or, take, drop, replicate}
+use Rattle.std.specs.Prelude.{ℕ, ◌+◌, ◌-◌, ◌*◌, ◌/◌, ◌≤◌, ◌<◌, ◌≡◌, ◌≢◌, take, replicate}
 use Rattle.std.proofs.Math.Path.{refl}
-use Rattle.std.proofs.Common.{sym, ap, ap₂, ◌∙◌, length-append, take_at}
+use Rattle.std.proofs.Common.{sym, ap, ◌∙◌, take_at}
 use Rattle.std.proofs.Math.Logic.{⊎_elim}
-use mathlib.Core.List.{List, [], ◌∷◌, ◌++◌}
+use mathlib.Core.List.{List, [], ◌++◌}
 use Rattle.std.proofs.Math.ListN.{length}
 use native.Mathlib.Omega.{arith}
 use Rattle.spec.specs.Outcome.{Outcome, ok, refuse, ◌>>=◌, ◌>>◌, u16}
 use Rattle.spec.specs.Wire.{file_of}
 use Rattle.spec.specs.Arrangement.{Move}
-use Rattle.spec.specs.State.{moves_payload, move_bytes, rounds_payload, rounds_from, word_bytes}
-use Rattle.spec.specs.Services.{Answer, Instance, fits, answer_of, plan_moves, judging, resolving, rounds}
+use Rattle.spec.specs.State.{moves_payload, rounds_payload, rounds_from}
+use Rattle.spec.specs.Services.{Answer, fits, answer_of, plan_moves, judging, resolving, rounds}
 use Rattle.spec.specs.Terms.{Bytes, Within, move_file, sheet_file, writes, Refuses, Resolves, Times, RoundsSmall, SheetFits}
-use Rattle.theory.specs.Basics.Outcomes.{bound, bind, after}
+use Rattle.theory.specs.Basics.Outcomes.{bind, after}
 use Rattle.theory.specs.Codec.Words.{word_u16}
 use Rattle.theory.specs.Maps.Moves.{legal_all_lem}
 use Rattle.theory.specs.Plans.MoveList as theory
-use Rattle.theory.specs.Services.Judged.{Cleared-plan}
 use Rattle.theory.proofs.Services.Judged.{cleared_plan}
 use Rattle.theory.specs.Services.Sheets.{rounds_small, sheet_fits, sheet_length}
 use Rattle.theory.specs.Services.Answers.{payload_within}
 use Rattle.theory.specs.Terms.Services.{refuses}
 use Rattle.theory.proofs.Terms.Services.{resolves, times}
-use Rattle.wire.specs.Payload.{place_of, word_at, lt_or_ge}
+use Rattle.wire.specs.Payload.{word_at, lt_or_ge}
 use Rattle.answers.specs.Delivered.{file_length, fits_whole}
 use Rattle.replay.specs.Moves.{moves_by, bytes_of, file_bytes, moves_same}
 use Rattle.lines.specs.Listing.{newline, field, moves_word, listed_moves, text_of, moves_text, refused_text, listing_of}

@@ -1,5 +1,5 @@
 -- A file that is longer than any valid one: its listing is that of its first bytes, as many as the longest valid file has and one more.
-use Rattle.std.specs.Prelude.{ℕ, ◌+◌, ◌*◌, ◌/◌, ◌%◌, ◌≤◌, ◌<◌, ◌≡◌, refl, List, length, take}
+use Rattle.std.specs.Prelude.{ℕ, ◌+◌, ◌*◌, ◌%◌, ◌≤◌, ◌<◌, ◌≡◌, List, length, take}
 use Rattle.std.proofs.Common.{sym, ap, ◌∙◌, ⊎_elim, take_all, length-take-le, arith}
 use Rattle.spec.specs.Outcome.{refuse}
 use Rattle.spec.specs.Wire.{payload_of, map_blocks, placing_blocks, plan_blocks}

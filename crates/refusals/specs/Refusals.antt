@@ -1,6 +1,5 @@
 -- A refusal as a number and a place, 0 for none, and the outcomes that they stand for.
-use Rattle.std.specs.Prelude.{◌≡◌, refl, ℕ, zero, suc, ◌+◌, ◌≤◌, ◌<◌, List, [], ◌∷◌, ◌++◌, take}
-use Rattle.std.proofs.Common.{sym, ap, ◌∙◌}
+use Rattle.std.specs.Prelude.{ℕ, zero, suc, List, take}
 use Rattle.spec.specs.Outcome.{Outcome, ok, refuse}
 use Rattle.spec.specs.Arrangement.{Move}
 use Rattle.wire.specs.Payload.{payload}

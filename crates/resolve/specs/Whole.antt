@@ -1,10 +1,10 @@
 -- A cleared plan, resolved: the walk, the goals, the endings.
-use Rattle.std.specs.Prelude.{◌≡◌, Bool, true, false, List, ◌++◌, ℕ, ◌+◌, ◌*◌, ◌/◌, ◌≤◌, ◌<◌, take}
-use Rattle.std.proofs.Common.{sym, ◌∙◌, ⊎_elim, length-take-le}
+use Rattle.std.specs.Prelude.{◌≡◌, Bool, true, false, List, ◌++◌, ℕ, ◌≤◌, ◌<◌, take}
+use Rattle.std.proofs.Common.{sym, ◌∙◌, ⊎_elim}
 use Rattle.std.proofs.Math.Path.{ap}
 use native.Mathlib.Omega.{arith}
 use Rattle.std.proofs.Math.ListN.{length, length-append}
-use Rattle.spec.specs.Outcome.{Outcome, ok, refuse, ◌>>=◌, ◌>>◌, check}
+use Rattle.spec.specs.Outcome.{Outcome, ok}
 use Rattle.spec.specs.Layout.{Map, Placing}
 use Rattle.spec.specs.Arrangement.{Move}
 use Rattle.spec.specs.State as meaning
@@ -23,7 +23,7 @@ use Rattle.writer.specs.Laid.{laid_all}
 use Rattle.motion.specs.World.{World, world, made_all, made_append, count_is, buffer_is, buffer_length, most_moves}
 use Rattle.walking.specs.Given.{Started, Cleared}
 use Rattle.walking.specs.Walk.{WalkOf, OverOf, after}
-use Rattle.walking.specs.Left.{resolved_on, fresh, on_none, on_steps, on_refused, on_surplus, on_goals_lem, start_consistent}
+use Rattle.walking.specs.Left.{resolved_on, fresh, on_none, on_steps, start_consistent}
 use Rattle.resolve.specs.declared.Resolved.{Resolved}
 use Rattle.resolve.specs.declared.Walked.{Walked}
 

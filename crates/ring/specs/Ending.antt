@@ -1,28 +1,28 @@
 -- Ending a ring: the lowest-numbered robot is pushed to its goal, then the other places are a hall.
-use Rattle.std.specs.Prelude.{◌≡◌, refl, ◌≢◌, Bool, true, false, List, [], ◌∷◌, ◌++◌, map, length, get_or, drop, set, T, eqb}
+use Rattle.std.specs.Prelude.{◌≡◌, refl, ◌≢◌, Bool, true, false, List, [], ◌∷◌, ◌++◌, map, length, get_or, drop, set}
 use Rattle.std.proofs.Math.Path.{ap, sym}
 use Rattle.std.proofs.Common.{ap₂, ◌∙◌, ⊎_elim, add-one, zero-add, take-append-drop, take-suc, take-suc-set, take_all, eq-eqb, ne_eqb}
 use Prim.Native.Nat.{ℕ, zero, suc, ◌+◌, ◌-◌, ◌<◌, ◌≤◌, min}
-use Rattle.std.proofs.lemmas.List.{map-append, length-map}
+use Rattle.std.proofs.lemmas.List.{map-append}
 use native.Mathlib.Omega.{arith}
 use Rattle.std.proofs.Math.Decide.{ℕ_discrete}
 use Rattle.std.proofs.Math.ListN.{take}
-use Rattle.spec.specs.Outcome.{member, index_of, same_list}
-use Rattle.spec.specs.Arrangement.{Arrangement, Move, mv, cell, order, places, seek, lesser, full, apply_all}
+use Rattle.spec.specs.Outcome.{member, index_of}
+use Rattle.spec.specs.Arrangement.{Arrangement, Move, mv, order, places, seek, lesser, full, apply_all}
 use Rattle.spec.specs.Hall.{Trip, down, up, lowering, raising, hall_moves, trips, to_places, hall_end}
 use Rattle.spec.specs.State.{State, cell_of, robot_on, arrangement_of, across_move, across}
-use Rattle.spec.specs.Ring.{wrap, in_ring, pushes, ahead, push_to, opened, lowest, turned, ring_can_end, ring_end_at, ring_end}
-use Rattle.theory.specs.Basics.Tests.{of_true, true_of, same→eq}
+use Rattle.spec.specs.Ring.{wrap, in_ring, ahead, push_to, opened, lowest, turned, ring_can_end, ring_end_at, ring_end}
+use Rattle.theory.specs.Basics.Tests.{of_true, same→eq}
 use Rattle.theory.specs.Basics.Lists.{Each, none, ◌&&&◌, ◌&◌, each_append, In, in_head, in_tail, in_left, in_right, in_append}
 use Rattle.theory.specs.Maps.Cells.{cell_of_lem, cell_none}
-use Rattle.theory.specs.Zones.Arrangements.{cell→member, member→cell, cell_inside}
+use Rattle.theory.specs.Zones.Arrangements.{member→cell, cell_inside}
 use Rattle.theory.specs.Basics.Searches.{seek_ok}
 use Rattle.theory.specs.Zones.Ring.Frames.{Within}
 use Rattle.theory.specs.Zones.Ring.Opened.{length_opened}
 use Rattle.motion.specs.Tables.{on_vertices}
 use Rattle.motion.specs.World.{World, made_all, made_none}
 use Rattle.motion.specs.Across.{made_both, across_nil, arrangement_length}
-use Rattle.motion.specs.Coupling.{Listed, Inside, arranged}
+use Rattle.motion.specs.Coupling.{Listed, arranged}
 use Rattle.circle.specs.Pushes.{inside_pushes}
 use Rattle.turns.specs.Entry.{opened_at}
 use Rattle.cells.specs.Reading.{places_taken, places_free, places_over}

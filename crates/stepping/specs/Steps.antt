@@ -1,16 +1,13 @@
 -- A step by the tables and by the bytes of the file: what its moves need.
-use Rattle.std.specs.Prelude.{◌≡◌, refl, Bool, true, false, List, [], ◌∷◌, ℕ, suc, ◌+◌, ◌*◌, ◌/◌, ◌<◌, ◌≤◌, length, get_or, take, drop, eqb}
+use Rattle.std.specs.Prelude.{◌≡◌, refl, Bool, true, false, List, [], ◌∷◌, ℕ, ◌+◌, ◌*◌, ◌/◌, ◌<◌, ◌≤◌, length, get_or, take, drop, eqb}
 use Rattle.std.proofs.Common.{sym, ap, ◌∙◌, arith, eqb→eq}
 use Rattle.spec.specs.Outcome.{ok, ◌and◌}
 use Rattle.spec.specs.Layout.{zone_of, zone_at}
-use Rattle.spec.specs.Arrangement.{mv, cell, last_free}
-use Rattle.spec.specs.State.{State, robot_on, arrangement_of, across, moved_all}
-use Rattle.spec.specs.ZoneKind.{behind_of, can_leave, can_enter}
+use Rattle.spec.specs.Arrangement.{mv, last_free}
+use Rattle.spec.specs.State.{State, arrangement_of, across, moved_all}
+use Rattle.spec.specs.ZoneKind.{can_leave, can_enter}
 use Rattle.spec.specs.Terms.{kind_of, place_of, arrangement_in}
 use Rattle.theory.specs.Basics.Tests.{of_true, true_of, and_left, and_right}
-use Rattle.theory.specs.Maps.Cells.{cell_of_lem}
-use Rattle.theory.specs.Zones.Robots.{runs_named}
-use Rattle.theory.proofs.Zones.Kinds.{laws}
 use Rattle.theory.specs.Zones.Crossing.{Proper, extra_of}
 use Rattle.theory.specs.Plans.Taken.{Taken, leaving}
 use Rattle.theory.specs.Plans.Step.{proper}
@@ -18,11 +15,8 @@ use Rattle.wire.specs.Payload.{payload, FourAt, held_length}
 use Rattle.wire.specs.declared.Four.{Four}
 use Rattle.motion.specs.World.{World, made_all, made_none, state_is}
 use Rattle.motion.specs.World as world
-use Rattle.motion.specs.Across.{arrangement_length, across_nil}
-use Rattle.cells.specs.Reading.{robot_here, empty_here}
 use Rattle.clique.specs.Entering.{Numbered, numbered_none, entered_numbered}
 use Rattle.walking.specs.Kinds.{leave_moves, enter_moves, clique_can_enter_lem}
-use Rattle.zones.specs.Ready.{leave_ready, enter_ready}
 use Rattle.walking.specs.Tests.{tests_passed, step_tests, step_moves, Passes}
 use Rattle.walking.specs.Given.{Started, Stepping, HasVertex, kind_at, vertices_at, has_vertex, kind_is, vertices_is, place_is}
 use Rattle.walking.specs.Held.{byte_is, held_part, held_same, extra_most}

@@ -1,6 +1,6 @@
 -- Document 01's number and place for each test of a step and each refusal of a plan.
 use Rattle.std.specs.Prelude.{◌≡◌, List, [], ◌∷◌, ℕ}
-use Rattle.std.proofs.Common.{sym, ap, ◌∙◌, ⊎_elim, arith}
+use Rattle.std.proofs.Common.{⊎_elim, arith}
 use types.Run.{OneOf}
 use Rattle.spec.specs.Outcome.{Outcome, ok, refuse, ◌>>◌}
 use Rattle.spec.specs.Arrangement.{Move}

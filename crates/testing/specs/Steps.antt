@@ -1,5 +1,5 @@
 -- A step on the lists: its tests are those on the state, and the lists after it stand for the state after it.
-use Rattle.std.specs.Prelude.{◌≡◌, refl, Bool, not, List, ℕ, suc, ◌+◌, ◌-◌, ◌≤◌, ◌<◌, length, get_or, take}
+use Rattle.std.specs.Prelude.{◌≡◌, refl, Bool, List, ℕ, suc, ◌+◌, ◌≤◌, ◌<◌, length, get_or, take}
 use Rattle.std.proofs.Common.{sym, ap, ◌∙◌, arith, eq-eqb, ne_eqb}
 use Rattle.std.proofs.Math.Path.{ap₂}
 use Rattle.std.proofs.Math.Bool.{true, false}

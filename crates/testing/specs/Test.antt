@@ -1,5 +1,5 @@
 -- Document 01's number and place for each test of a step.
-use Rattle.std.specs.Prelude.{◌≡◌, List, [], ◌∷◌, ℕ}
+use Rattle.std.specs.Prelude.{◌≡◌, [], ◌∷◌, ℕ}
 use Rattle.std.proofs.Common.{sym, ap, ◌∙◌, ⊎_elim, arith}
 use types.Run.{OneOf}
 use Rattle.spec.specs.Outcome.{Outcome, ok, refuse}

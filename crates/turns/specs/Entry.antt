@@ -1,25 +1,18 @@
 -- Entering a ring: the robot behind a place, and the pushes until the named one is there.
-use Rattle.std.specs.Prelude.{◌≡◌, refl, ◌≢◌, Bool, true, false, ℕ, zero, suc, ◌+◌, ◌-◌, ◌*◌, ◌<◌, ◌≤◌, List, [], ◌∷◌, ◌++◌, map, length, get_or, take, drop, T, eqb}
+use Rattle.std.specs.Prelude.{◌≡◌, refl, ◌≢◌, Bool, true, false, ℕ, zero, suc, ◌+◌, ◌-◌, ◌<◌, List, [], ◌∷◌, ◌++◌, length, get_or, take, T, eqb}
 use Rattle.std.proofs.Math.Path.{ap, sym}
-use Rattle.std.proofs.Common.{ap₂, ◌∙◌, ⊎_elim, add-one, arith, not-suc-le-zero, take-append-drop, drop-cons, take-suc, take_all, eq-eqb, ne_eqb}
-use Rattle.std.proofs.Math.Decide.{ℕ_discrete, dec_lt}
-use Rattle.std.proofs.Math.ListN.{get_or-eq_default}
-use Rattle.spec.specs.Outcome.{member, ◌and◌}
-use Rattle.spec.specs.Arrangement.{Arrangement, Move, cell, order, seek, apply_all, last_named}
-use Rattle.spec.specs.Ring.{wrap, frame, in_ring, run, shove, push, opened, ring_behind, entry_open, turn_place, turn_for, ring_enter}
-use Rattle.spec.specs.State.{State, cell_of, robot_on, arrangement_of, across}
+use Rattle.std.proofs.Common.{◌∙◌, ⊎_elim, add-one, arith, drop-cons, take-suc, take_all, eq-eqb, ne_eqb}
+use Rattle.std.proofs.Math.Decide.{ℕ_discrete}
+use Rattle.spec.specs.Outcome.{member}
+use Rattle.spec.specs.Arrangement.{Arrangement, cell, order, last_named}
+use Rattle.spec.specs.Ring.{wrap, frame, opened, ring_behind}
+use Rattle.spec.specs.State.{State, cell_of, robot_on, arrangement_of}
 use Rattle.theory.specs.Basics.Lists.{in_head, in_tail}
 use Rattle.theory.specs.Maps.Cells.{cell_of_lem, cell_none, cell_robot}
-use Rattle.theory.specs.Zones.Arrangements.{order_append, member→cell, cell_inside}
-use Rattle.theory.specs.Basics.Searches.{seek_ok}
 use Rattle.theory.specs.Zones.Ring.Opened.{length_opened}
-use Rattle.motion.specs.World.{World, made_all, made_none}
-use Rattle.motion.specs.Across.{made_both, across_nil, arrangement_length, arrangement_at}
-use Rattle.motion.specs.Coupling.{Listed, arranged}
+use Rattle.motion.specs.Across.{arrangement_length, arrangement_at}
 use Rattle.circle.specs.Places.{wrap_is, wrap_under}
-use Rattle.circle.specs.Runs.{frame_at, frame_robot}
-use Rattle.circle.specs.Pushes.{inside_push}
-use Rattle.circle.specs.Reading.{never_256}
+use Rattle.circle.specs.Runs.{frame_at}
 
 -- the ring read from place j on: what stands there, then the other places
 pub frame_opened : (j : ℕ) (a : Arrangement) → j < length a → frame j a ≡ cell a j ∷ opened j a

@@ -1,12 +1,12 @@
 -- A robot that has an empty place in front of it is pushed alone: it goes one place forward.
-use Rattle.std.specs.Prelude.{◌≡◌, refl, ◌≢◌, Bool, true, false, ℕ, zero, suc, ◌+◌, ◌-◌, ◌<◌, ◌≤◌, List, [], ◌∷◌, map, length, get_or, set, eqb}
+use Rattle.std.specs.Prelude.{◌≡◌, refl, ◌≢◌, Bool, true, false, ℕ, zero, suc, ◌+◌, ◌-◌, ◌<◌, List, [], ◌∷◌, map, length, get_or, set, eqb}
 use Rattle.std.proofs.Common.{ap, ap₂, sym, ◌∙◌, ⊎_elim, true≢false, add-one, arith, not-suc-le-zero, length-set, ext_get_or, get_or-set_same, get_or-set_other, eq-eqb, ne_eqb, eqb-true}
 use Rattle.std.proofs.Math.Decide.{ℕ_discrete, dec_lt}
 use Rattle.std.proofs.lemmas.Bool.{eqb-false}
-use Rattle.spec.specs.Arrangement.{Arrangement, Move, mv, cell, seek, apply, apply_all, last_named}
-use Rattle.spec.specs.Ring.{wrap, frame, in_ring, run, shove, push, opened, ring_behind, entry_open, turn_place}
+use Rattle.spec.specs.Arrangement.{Arrangement, Move, mv, cell, seek, apply_all, last_named}
+use Rattle.spec.specs.Ring.{wrap, frame, in_ring, run, shove, push, opened, ring_behind, entry_open}
 use Rattle.spec.specs.State.{State, cell_of, robot_on, arrangement_of, across_move, across}
-use Rattle.theory.specs.Maps.Cells.{cell_of_lem, cell_none, cell_robot, cell_empty}
+use Rattle.theory.specs.Maps.Cells.{cell_of_lem, cell_none, cell_empty}
 use Rattle.theory.specs.Zones.Ring.Opened.{length_opened}
 use Rattle.motion.specs.Tables.{on_vertices}
 use Rattle.motion.specs.World.{World, made, made_all, made_one}

@@ -7,7 +7,7 @@ use Rattle.spec.specs.Outcome.{◌and◌}
 use Rattle.spec.specs.Arrangement.{Arrangement, Move, cell, order, seek, apply_all}
 use Rattle.spec.specs.Ring.{wrap, frame, in_ring, run, shove, push, opened, ring_behind, entry_open, turn_place, turn_for, ring_enter}
 use Rattle.spec.specs.State.{State, cell_of, robot_on, arrangement_of, across}
-use Rattle.theory.specs.Maps.Cells.{cell_of_lem, cell_none, cell_robot, cell_empty}
+use Rattle.theory.specs.Maps.Cells.{cell_of_lem, cell_none}
 use Rattle.theory.specs.Zones.Arrangements.{order_append, member→cell, cell_inside}
 use Rattle.theory.specs.Basics.Searches.{seek_ok}
 use Rattle.theory.specs.Zones.Ring.Opened.{length_opened}

@@ -1,6 +1,6 @@
 -- Leaving a clique: one law for each way through the code.
-use Rattle.std.specs.Prelude.{◌≡◌, refl, ◌≢◌, Bool, true, false, ℕ, zero, suc, ◌+◌, ◌-◌, ◌<◌, ◌≤◌, List, [], ◌∷◌, ◌++◌, length, eqb, ltb}
-use Rattle.std.proofs.Common.{ap, ap₂, sym, ◌∙◌, arith, eq-eqb, ne_eqb}
+use Rattle.std.specs.Prelude.{◌≡◌, ◌≢◌, true, false, ℕ, suc, ◌-◌, List, [], ◌∷◌, ◌++◌, length, eqb, ltb}
+use Rattle.std.proofs.Common.{ap, sym, ◌∙◌, arith, eq-eqb, ne_eqb}
 use Rattle.spec.specs.Arrangement.{Arrangement, Move, mv, seek, cell, full}
 use Rattle.spec.specs.Clique.{make_room, clique_can_leave, clique_leave}
 use Rattle.spec.specs.State.{cell_of, across, across_move}

@@ -1,17 +1,11 @@
 use borrow.Author.Rules.{rules}
 use mathlib.Core.Path.{◌≡◌, refl, ap}
-use Prim.Native.Nat.{ℕ, ◌+◌, ◌-◌, ◌*◌, ◌≤◌}
-use lib.ListN.{length}
-use Rattle.spec.specs.Layout.{Map}
+use Prim.Native.Nat.{◌+◌, ◌*◌}
 use Rattle.spec.specs.State.{State}
-use Rattle.theory.specs.Maps.Layout.{Accepted}
-use Rattle.zoning.specs.declared.MapFault.{MapFault}
-use Rattle.layout.specs.Map.{MapHeld}
-use Rattle.wire.specs.Payload.{place_of}
 use Rattle.motion.specs.States.{moved_by}
 use Rattle.motion.specs.Tables.{tabled}
 use Rattle.replay.specs.Moves.{file_bytes, three_move, three_bytes, three_move_lem, lent_tables}
-use Rattle.drawing.specs.Drawn.{lent_map, lent_held, EndsOn, Drawing, drawing_first, drawing_next, all_drawn}
+use Rattle.drawing.specs.Drawn.{lent_held, drawing_first, drawing_next, all_drawn}
 use native.Mathlib.Omega.{arith}
 use Rattle.drawing.proofs.draw_moves.Goals as goal
 

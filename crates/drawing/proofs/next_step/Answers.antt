@@ -1,4 +1,3 @@
-use borrow.Author.Rules.{rules}
 use Rattle.drawing.specs.Drawn.{drawn_same}
 use Rattle.drawing.proofs.next_step.Goals as goal
 

@@ -1,7 +1,6 @@
 use native.Mathlib.Omega.{arith}
 use mathlib.Core.Path.{sym, ap}
 use Rattle.checking.specs.Checked.{checked_of}
-use borrow.Author.Rules.{rules}
 use Rattle.refusals.proofs.of_file.Goals as goal
 
 pub returns-in-Payload : goal.returns-in-Payload

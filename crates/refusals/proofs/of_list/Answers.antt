@@ -1,6 +1,5 @@
 use mathlib.Core.Path.{sym, ap}
 use Rattle.replay.specs.Check.{move_list_of}
-use borrow.Author.Rules.{rules}
 use Rattle.refusals.proofs.of_list.Goals as goal
 
 pub returns-in-Legal : goal.returns-in-Legal

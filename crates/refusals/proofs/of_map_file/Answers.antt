@@ -1,7 +1,6 @@
 use mathlib.Core.Path.{sym, ap}
 use native.Mathlib.Omega.{arith}
 use Rattle.checking.specs.Checked.{checked_of}
-use borrow.Author.Rules.{rules}
 use Rattle.refusals.proofs.of_map_file.Goals as goal
 
 pub returns-in-Payload : goal.returns-in-Payload

@@ -1,6 +1,5 @@
 use mathlib.Core.Path.{sym, ap}
 use Rattle.placing.specs.Fault.{answered}
-use borrow.Author.Rules.{rules}
 use Rattle.refusals.proofs.of_placing.Goals as goal
 
 pub returns-in-None : goal.returns-in-None

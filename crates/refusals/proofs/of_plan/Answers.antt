@@ -1,7 +1,6 @@
 use mathlib.Core.Path.{sym, ap}
 use native.Mathlib.Omega.{arith}
 use Rattle.testing.specs.Fault.{fault_of}
-use borrow.Author.Rules.{rules}
 use Rattle.refusals.proofs.of_plan.Goals as goal
 
 pub returns-in-None : goal.returns-in-None

@@ -1,11 +1,10 @@
 use borrow.Author.Rules.{rules}
 use native.Mathlib.Omega.{arith}
-use mathlib.Core.Path.{◌≡◌, refl, ap, sym, ◌∙◌}
-use Prim.Native.Nat.{suc, ◌<◌, ◌-◌}
+use mathlib.Core.Path.{sym, ◌∙◌}
+use Prim.Native.Nat.{◌<◌}
 use lib.ListN.{length}
-use Rattle.spec.specs.State.{arrangement_of, across}
 use Rattle.motion.specs.Tables.{on_vertices}
-use Rattle.motion.specs.World.{world_in, made_all}
+use Rattle.motion.specs.World.{world_in}
 use Rattle.theory.specs.Maps.Cells.{cell_of_lem}
 use Rattle.ring.specs.Ending.{ends_nobody, ends_stands, ends_goal, end_both, opened_count}
 use Rattle.ring.proofs.end.Goals as goal

@@ -4,13 +4,12 @@ use mathlib.Core.Path.{◌≡◌, refl, ap, sym, ◌∙◌}
 use mathlib.Core.Bool.{true}
 use Prim.Native.Nat.{◌<◌}
 use lib.ListN.{length}
-use Rattle.spec.specs.Ring.{turn_for, ring_enter}
 use Rattle.spec.specs.State.{arrangement_of, across}
 use Rattle.motion.specs.Tables.{on_vertices}
 use Rattle.motion.specs.World.{world_in, made_all}
 use Rattle.motion.specs.Coupling.{Listed}
 use Rattle.motion.specs.Across.{arrangement_length}
-use Rattle.turns.specs.Turns.{turn_at, turn_step, turn_over, turn_rest, begins_inside, turns_enter, turns_fit}
+use Rattle.turns.specs.Turns.{turn_step, turn_over, turn_rest, begins_inside, turns_enter, turns_fit}
 use Rattle.turns.specs.Steps.{goes_on, goes_alone, turn_next}
 use Rattle.ring.proofs.enter.Goals as goal
 

@@ -1,17 +1,10 @@
-use borrow.Author.Rules.{rules}
-use native.Mathlib.Omega.{arith}
-use mathlib.Core.Path.{◌≡◌, refl, ap, sym, ◌∙◌}
-use mathlib.Core.Bool.{true}
-use Prim.Native.Nat.{◌<◌}
+use mathlib.Core.Path.{◌≡◌}
 use lib.ListN.{length}
 use Rattle.spec.specs.Ring.{turn_for, ring_enter}
 use Rattle.spec.specs.State.{arrangement_of, across}
 use Rattle.motion.specs.Tables.{on_vertices}
 use Rattle.motion.specs.World.{world_in, made_all}
-use Rattle.motion.specs.Coupling.{Listed}
-use Rattle.motion.specs.Across.{arrangement_length}
-use Rattle.turns.specs.Turns.{turn_at, turn_step, turn_over, turn_rest, begins_inside, turns_enter, turns_fit}
-use Rattle.turns.specs.Steps.{goes_on, goes_alone, turn_next}
+use Rattle.turns.specs.Turns.{turn_at}
 use Rattle.ring.proofs.enter.Given as goal
 
 abbrev pub invariant-loop-left : goal.invariant-loop-left

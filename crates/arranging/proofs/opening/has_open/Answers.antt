@@ -1,4 +1,4 @@
-use Rattle.std.proofs.Common.{◌≡◌, ℕ, ◌-◌, ◌<◌, ◌≤◌, false, get_or, arith, rules, below_more}
+use Rattle.std.proofs.Common.{arith, rules, below_more}
 use Rattle.arranging.proofs.opening.has_open.Goals as goal
 
 pub loop-i-init : goal.loop-i-init

@@ -1,4 +1,4 @@
-use Rattle.std.proofs.Common.{◌≡◌, ℕ, ◌-◌, ◌<◌, ◌≤◌, false, get_or, arith, rules, below_more}
+use Rattle.std.proofs.Common.{◌≡◌, ℕ, ◌-◌, ◌<◌, ◌≤◌, false, get_or}
 use Rattle.arranging.proofs.opening.has_open.Given as goal
 
 abbrev pub invariant-loop-i : goal.invariant-loop-i

@@ -1,5 +1,4 @@
-use Rattle.std.proofs.Common.{◌≡◌, ◌+◌, ◌-◌, ◌≤◌, drop, refl, ◌∙◌, arith, rules}
-use Rattle.spec.specs.Clique.{open_target}
+use Rattle.std.proofs.Common.{refl, ◌∙◌, arith, rules}
 use Rattle.arranging.specs.Toward.{open_sixteen, part_length}
 use Rattle.arranging.proofs.opening.pass_sixteens.Goals as goal
 

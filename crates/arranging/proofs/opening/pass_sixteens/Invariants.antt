@@ -1,6 +1,5 @@
-use Rattle.std.proofs.Common.{◌≡◌, ◌+◌, ◌-◌, ◌≤◌, drop, refl, ◌∙◌, arith, rules}
+use Rattle.std.proofs.Common.{◌≡◌, ◌+◌, ◌-◌, ◌≤◌, drop}
 use Rattle.spec.specs.Clique.{open_target}
-use Rattle.arranging.specs.Toward.{open_sixteen, part_length}
 use Rattle.arranging.proofs.opening.pass_sixteens.Given as goal
 
 abbrev pub invariant-loop-i : goal.invariant-loop-i

@@ -1,5 +1,4 @@
-use Rattle.std.proofs.Common.{◌≡◌, ◌+◌, ◌-◌, min, length, drop, refl, ◌∙◌, arith}
-use Rattle.spec.specs.Clique.{open_target}
+use Rattle.std.proofs.Common.{refl, ◌∙◌, arith}
 use Rattle.arranging.specs.Toward.{open_here, open_further, open_end}
 use Rattle.arranging.proofs.opening.seek_open.Goals as goal
 

@@ -1,6 +1,5 @@
-use Rattle.std.proofs.Common.{◌≡◌, ◌+◌, ◌-◌, min, length, drop, refl, ◌∙◌, arith}
+use Rattle.std.proofs.Common.{◌≡◌, ◌+◌, ◌-◌, min, length, drop}
 use Rattle.spec.specs.Clique.{open_target}
-use Rattle.arranging.specs.Toward.{open_here, open_further, open_end}
 use Rattle.arranging.proofs.opening.seek_open.Given as goal
 
 abbrev pub invariant-loop-i : goal.invariant-loop-i

@@ -1,11 +1,10 @@
-use Rattle.std.proofs.Common.{◌≡◌, ◌+◌, ◌-◌, ◌<◌, length, drop, sym, refl, ◌∙◌, arith, rules}
+use Rattle.std.proofs.Common.{◌≡◌, ◌-◌, ◌<◌, length, sym, refl, ◌∙◌, arith, rules}
 use Rattle.spec.specs.Arrangement.{mv}
-use Rattle.spec.specs.State.{across}
 use Rattle.theory.specs.Basics.Searches.{seek_le}
-use Rattle.motion.specs.World.{world_in, made_all}
+use Rattle.motion.specs.World.{world_in}
 use Rattle.motion.specs.Across.{made_more, made_nothing}
-use Rattle.spec.specs.Clique.{open_target, clique_to}
-use Rattle.tabling.specs.Table.{Tabled, tabled_at, tabled_moved, seek_empty}
+use Rattle.spec.specs.Clique.{open_target}
+use Rattle.tabling.specs.Table.{tabled_at, tabled_moved, seek_empty}
 use Rattle.arranging.specs.Toward.{open_moved, open_taken, open_is, to_target, to_room, to_rest, to_none}
 use Rattle.arranging.proofs.toward.go_tabled.Goals as goal
 

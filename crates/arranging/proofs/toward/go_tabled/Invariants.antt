@@ -1,12 +1,8 @@
-use Rattle.std.proofs.Common.{◌≡◌, ◌+◌, ◌-◌, ◌<◌, length, drop, sym, refl, ◌∙◌, arith, rules}
-use Rattle.spec.specs.Arrangement.{mv}
+use Rattle.std.proofs.Common.{◌≡◌, ◌+◌, length, drop}
 use Rattle.spec.specs.State.{across}
-use Rattle.theory.specs.Basics.Searches.{seek_le}
 use Rattle.motion.specs.World.{world_in, made_all}
-use Rattle.motion.specs.Across.{made_more, made_nothing}
 use Rattle.spec.specs.Clique.{open_target, clique_to}
-use Rattle.tabling.specs.Table.{Tabled, tabled_at, tabled_moved, seek_empty}
-use Rattle.arranging.specs.Toward.{open_moved, open_taken, open_is, to_target, to_room, to_rest, to_none}
+use Rattle.tabling.specs.Table.{Tabled}
 use Rattle.arranging.proofs.toward.go_tabled.Given as goal
 
 abbrev pub invariant-loop-left : goal.invariant-loop-left

@@ -1,4 +1,4 @@
-use Rattle.std.proofs.Common.{◌≡◌, ℕ, ◌+◌, ◌-◌, ◌≤◌, min, length, drop, sym, refl, ap, ◌∙◌, arith, rules}
+use Rattle.std.proofs.Common.{◌≡◌, ℕ, ◌+◌, ◌-◌, drop, sym, refl, ap, ◌∙◌, arith, rules}
 use Rattle.spec.specs.State.{cell_of}
 use Rattle.spec.specs.Clique.{lowest_off}
 use Rattle.theory.specs.Maps.Cells.{cell_none}

@@ -1,8 +1,6 @@
-use Rattle.std.proofs.Common.{◌≡◌, ℕ, ◌+◌, ◌-◌, ◌≤◌, min, length, drop, sym, refl, ap, ◌∙◌, arith, rules}
+use Rattle.std.proofs.Common.{◌≡◌, ◌≤◌, min, length, drop}
 use Rattle.spec.specs.State.{cell_of}
 use Rattle.spec.specs.Clique.{lowest_off}
-use Rattle.theory.specs.Maps.Cells.{cell_none}
-use Rattle.arranging.specs.Toward.{off_earlier, off_end}
 use Rattle.arranging.proofs.toward.lowest_off.Given as goal
 
 abbrev pub invariant-loop-k : goal.invariant-loop-k

@@ -5,10 +5,9 @@ use Rattle.motion.specs.World.{world_in, made_all}
 use Rattle.spec.specs.State.{arrangement_of}
 use Rattle.motion.specs.Tables.{tabled, on_vertices}
 use lib.ListN.{get_or}
-use Prim.Native.Nat.{ℕ, ◌-◌}
+use Prim.Native.Nat.{ℕ}
 use mathlib.Core.List.{List}
 use mathlib.Core.Path.{ap, ◌∙◌}
-use borrow.Author.Rules.{rules}
 use Rattle.bringing.proofs.ending.end_zone.Goals as goal
 
 pub bring_to_goals-requires : goal.bring_to_goals-requires

@@ -1,17 +1,11 @@
-use Rattle.walking.specs.Endings.{Ending, ending_start, ending_can, ending_next, ending_end}
-use Rattle.walking.specs.Given.{Given, has_zone, ends_is, end_moves_is}
-use Rattle.theory.specs.Maps.Consistent.{Consistent}
+use Rattle.walking.specs.Endings.{ending_start, ending_can, ending_next, ending_end}
+use Rattle.walking.specs.Given.{has_zone, ends_is, end_moves_is}
 use Rattle.theory.specs.Plans.Step.{proper}
 use Rattle.spec.specs.Terms.{zone_count}
-use Rattle.spec.specs.Run.{goals_from}
-use Rattle.spec.specs.Layout.{Map}
-use Rattle.spec.specs.Outcome.{ok}
 use Rattle.motion.specs.World.{world_in, made_all}
 use Rattle.motion.specs.Tables.{tabled, on_vertices}
-use lib.ListN.{length}
-use Prim.Native.Nat.{ℕ, ◌-◌, ◌≤◌, ◌<◌}
-use mathlib.Core.List.{List}
-use mathlib.Core.Path.{◌≡◌, refl, ap, ◌∙◌}
+use Prim.Native.Nat.{◌<◌}
+use mathlib.Core.Path.{refl, ap, ◌∙◌}
 use borrow.Author.Rules.{rules}
 use Rattle.bringing.proofs.ending.end_zones.Goals as goal
 
@@ -26,8 +20,13 @@ end_zone-made-requires c =
     let l = c.loop-z in
     let b = c.requires.on in
     let g = l.invariant.2 b.map b.n b.k b.zone b.place b.rows b.given b.count b.consistent c.requires.pass in
-    let t : l.z < zone_count b.map = rw b.count c.loop-z-test.true in record { has_zone = has_zone b.map b.n b.k a.kind.now a.first.now a.size.now a.listed.now b.zone b.place b.rows b.given l.z t; z_value = ends_is b.map b.n b.k a.kind.now a.first.now a.size.now a.listed.now b.zone b.place b.rows b.given l.z t (tabled l.robots l.vertices) (on_vertices a.goals.now)
-            ∙ ending_can b.map b.given.accepted b.k b.given.few (tabled a.robots.now a.vertices.now) (on_vertices a.goals.now) b.consistent c.requires.pass (world_in a.robots.now a.vertices.now a.count a.out.now) l.z (world_in l.robots l.vertices l.made l.out) g t; robots_len = l.invariant.3 ∙ b.consistent.rooms; proper = rw (← b.given.tables.vertices l.z t) (proper b.map b.given.accepted b.k b.given.few (tabled l.robots l.vertices) g.consistent l.z t) }
+    let t : l.z < zone_count b.map = rw b.count c.loop-z-test.true in record {
+      has_zone = has_zone b.map b.n b.k a.kind.now a.first.now a.size.now a.listed.now b.zone b.place b.rows b.given l.z t;
+      z_value = ends_is b.map b.n b.k a.kind.now a.first.now a.size.now a.listed.now b.zone b.place b.rows b.given l.z t (tabled l.robots l.vertices) (on_vertices a.goals.now)
+          ∙ ending_can b.map b.given.accepted b.k b.given.few (tabled a.robots.now a.vertices.now) (on_vertices a.goals.now) b.consistent c.requires.pass (world_in a.robots.now a.vertices.now a.count a.out.now) l.z (world_in l.robots l.vertices l.made l.out) g t;
+      robots_len = l.invariant.3 ∙ b.consistent.rooms;
+      proper = rw (← b.given.tables.vertices l.z t) (proper b.map b.given.accepted b.k b.given.few (tabled l.robots l.vertices) g.consistent l.z t);
+    }
 
 pub loop-z-preserved : goal.loop-z-preserved
 loop-z-preserved c =

@@ -1,18 +1,16 @@
-use Rattle.walking.specs.Endings.{Ending, ending_start, ending_can, ending_next, ending_end}
-use Rattle.walking.specs.Given.{Given, has_zone, ends_is, end_moves_is}
+use Rattle.walking.specs.Endings.{Ending}
+use Rattle.walking.specs.Given.{Given}
 use Rattle.theory.specs.Maps.Consistent.{Consistent}
-use Rattle.theory.specs.Plans.Step.{proper}
 use Rattle.spec.specs.Terms.{zone_count}
 use Rattle.spec.specs.Run.{goals_from}
 use Rattle.spec.specs.Layout.{Map}
 use Rattle.spec.specs.Outcome.{ok}
-use Rattle.motion.specs.World.{world_in, made_all}
+use Rattle.motion.specs.World.{world_in}
 use Rattle.motion.specs.Tables.{tabled, on_vertices}
 use lib.ListN.{length}
-use Prim.Native.Nat.{ℕ, ◌-◌, ◌≤◌, ◌<◌}
+use Prim.Native.Nat.{ℕ, ◌-◌, ◌≤◌}
 use mathlib.Core.List.{List}
-use mathlib.Core.Path.{◌≡◌, refl, ap, ◌∙◌}
-use borrow.Author.Rules.{rules}
+use mathlib.Core.Path.{◌≡◌}
 use Rattle.bringing.proofs.ending.end_zones.Given as goal
 
 abbrev pub invariant-loop-z : goal.invariant-loop-z

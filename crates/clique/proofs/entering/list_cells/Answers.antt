@@ -1,11 +1,9 @@
 use borrow.Author.Rules.{rules}
 use native.Mathlib.Omega.{arith}
-use Prim.Native.Nat.{◌-◌, ◌≤◌, min}
-use mathlib.Core.Path.{◌≡◌, refl, ◌∙◌}
-use mathlib.Core.List.{◌++◌, map}
-use lib.ListN.{length, take, drop, length-set, length-map}
+use mathlib.Core.Path.{refl, ◌∙◌}
+use mathlib.Core.List.{map}
+use lib.ListN.{length-set, length-map}
 use Rattle.spec.specs.State.{cell_of}
-use Rattle.cells.specs.Cells.{overlaid}
 use Rattle.clique.specs.Entering.{map_next}
 use Rattle.cells.specs.Cells.{overlaid_step, overlaid_end}
 use Rattle.clique.proofs.entering.list_cells.Goals as goal

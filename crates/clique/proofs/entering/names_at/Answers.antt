@@ -1,4 +1,3 @@
-use borrow.Author.Rules.{rules}
 use Rattle.clique.specs.Entering.{named_is, named_past}
 use Rattle.clique.proofs.entering.names_at.Goals as goal
 

@@ -1,10 +1,7 @@
 use borrow.Author.Rules.{rules}
 use native.Mathlib.Omega.{arith}
-use Prim.Native.Nat.{ℕ, ◌-◌, ◌≤◌, ◌<◌}
 use mathlib.Core.Path.{sym}
-use lib.ListN.{length, get_or}
 use Rattle.clique.specs.Entering.{numbered_more, numbered_all, never}
-use mathlib.Core.Logic.{◌≢◌}
 use Rattle.clique.proofs.entering.names_robots.Goals as goal
 use Rattle.clique.proofs.entering.names_robots.Goals.{then-list-k+else-k-j, else-list-k}
 

@@ -1,10 +1,6 @@
-use borrow.Author.Rules.{rules}
-use native.Mathlib.Omega.{arith}
 use Prim.Native.Nat.{ℕ, ◌-◌, ◌≤◌, ◌<◌}
-use mathlib.Core.Path.{sym}
 use lib.ListN.{length, get_or}
-use Rattle.clique.specs.Entering.{numbered_more, numbered_all, never}
-use mathlib.Core.Logic.{◌≢◌, ⊎_elim}
+use mathlib.Core.Logic.{◌≢◌}
 use Rattle.clique.proofs.entering.names_robots.Given as goal
 
 abbrev pub invariant-loop-k : goal.invariant-loop-k

@@ -1,4 +1,3 @@
-use borrow.Author.Rules.{rules}
 use mathlib.Core.Path.{◌∙◌}
 use lib.ListN.{take}
 use Rattle.configurations.specs.Entering.{list_other, list_rest, list_others}

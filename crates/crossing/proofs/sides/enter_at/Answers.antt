@@ -10,7 +10,6 @@ use native.Mathlib.Omega.{arith}
 use Prim.Native.Nat.{ℕ, ◌+◌}
 use mathlib.Core.List.{List, []}
 use mathlib.Core.Path.{◌≡◌, sym, ap, ◌∙◌}
-use borrow.Author.Rules.{rules}
 use Rattle.crossing.proofs.sides.enter_at.Goals as goal
 
 pub enter_room-requires : goal.enter_room-requires

@@ -1,7 +1,6 @@
 use mathlib.Core.Path.{sym, ◌∙◌}
 use lib.Dec.{eqb→eq}
 use Rattle.theory.specs.Basics.Tests.{of_true}
-use borrow.Author.Rules.{rules}
 use Rattle.crossing.proofs.sides.is_ready.Goals as goal
 
 pub returns-then-robot_in : goal.returns-then-robot_in

@@ -8,7 +8,6 @@ use lib.ListN.{get_or}
 use Prim.Native.Nat.{ℕ}
 use mathlib.Core.List.{List}
 use mathlib.Core.Path.{sym, ap, ◌∙◌}
-use borrow.Author.Rules.{rules}
 use Rattle.crossing.proofs.sides.leave_at.Goals as goal
 
 pub returns-then-robot_in-r : goal.returns-then-robot_in-r

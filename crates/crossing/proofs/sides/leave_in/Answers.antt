@@ -3,7 +3,6 @@ use Rattle.motion.specs.World.{world_in}
 use Rattle.spec.specs.State.{arrangement_of}
 use Rattle.motion.specs.Tables.{tabled}
 use mathlib.Core.Path.{sym, ◌∙◌}
-use borrow.Author.Rules.{rules}
 use Rattle.crossing.proofs.sides.leave_in.Goals as goal
 
 pub returns-then-x-r : goal.returns-then-x-r

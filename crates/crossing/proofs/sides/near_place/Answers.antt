@@ -1,6 +1,5 @@
 use Rattle.zones.specs.Near.{near_later, near_round, near_first}
 use native.Mathlib.Omega.{arith}
-use borrow.Author.Rules.{rules}
 use Rattle.crossing.proofs.sides.near_place.Goals as goal
 
 pub returns-then-j-gt0 : goal.returns-then-j-gt0

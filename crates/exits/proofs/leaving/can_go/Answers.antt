@@ -1,4 +1,3 @@
-use borrow.Author.Rules.{rules}
 use mathlib.Core.Path.{◌∙◌}
 use Rattle.theory.specs.Zones.Kinds.{kind?}
 use Rattle.exits.specs.Leaving.{goes, chosen_pinned, chosen_hall}

@@ -1,4 +1,3 @@
-use borrow.Author.Rules.{rules}
 use native.Mathlib.Omega.{arith}
 use Rattle.exits.specs.Leaving.{leaver_none, leaver_goes, leaver_stays}
 use Rattle.exits.proofs.leaving.leave_index.Goals as goal

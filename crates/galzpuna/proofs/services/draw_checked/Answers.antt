@@ -1,6 +1,5 @@
 use mathlib.Core.Path.{refl, ◌∙◌}
 use Rattle.galzpuna.specs.Services.{draw_refused, starts_of, draw_delivered}
-use borrow.Author.Rules.{rules}
 use Rattle.galzpuna.proofs.services.draw_checked.Goals as goal
 
 pub open_list-o-requires : goal.open_list-o-requires

@@ -1,4 +1,3 @@
-use borrow.Author.Rules.{rules}
 use native.Mathlib.Omega.{arith}
 use Rattle.galzpuna.specs.Plans.{judge_refused, judge_cleared}
 use Rattle.galzpuna.proofs.services.galzpuna_judge.Goals as goal

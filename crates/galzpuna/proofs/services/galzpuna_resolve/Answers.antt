@@ -1,7 +1,6 @@
 use native.Mathlib.Omega.{arith}
 use mathlib.Core.Path.{◌∙◌}
 use Rattle.galzpuna.specs.Plans.{resolve_refused, count_few, resolve_delivered}
-use borrow.Author.Rules.{rules}
 use Rattle.galzpuna.proofs.services.galzpuna_resolve.Goals as goal
 
 pub refuse-requires : goal.refuse-requires

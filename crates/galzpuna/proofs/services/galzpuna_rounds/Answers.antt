@@ -1,4 +1,3 @@
-use borrow.Author.Rules.{rules}
 use mathlib.Core.Path.{◌∙◌}
 use Rattle.opening.specs.Opened.{chain_instance, filed_passed, filed_instance, filed_place}
 use Rattle.galzpuna.specs.Services.{rounds_chain}

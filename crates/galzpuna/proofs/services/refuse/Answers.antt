@@ -1,5 +1,4 @@
 use Rattle.galzpuna.specs.Services.{refusal_is}
-use borrow.Author.Rules.{rules}
 use Rattle.galzpuna.proofs.services.refuse.Goals as goal
 
 pub returns : goal.returns

@@ -1,7 +1,6 @@
 use mathlib.Core.Path.{◌∙◌}
 use native.Mathlib.Omega.{arith}
 use Rattle.galzpuna.specs.Services.{rounds_refused, rounds_delivered}
-use borrow.Author.Rules.{rules}
 use Rattle.galzpuna.proofs.services.rounds_checked.Goals as goal
 
 pub open_list-o-requires : goal.open_list-o-requires

@@ -1,14 +1,12 @@
 use Rattle.motion.specs.Tables.{on_vertices}
-use borrow.Author.Rules.{rules}
 use mathlib.Core.List.{List}
-use mathlib.Core.Path.{◌≡◌, ap, ◌∙◌}
-use Prim.Native.Nat.{ℕ, ◌-◌, ◌≤◌, ◌<◌}
-use lib.ListN.{length, length-set}
+use mathlib.Core.Path.{◌≡◌}
+use Prim.Native.Nat.{ℕ, ◌-◌, ◌≤◌}
+use lib.ListN.{length}
 use Rattle.spec.specs.Layout.{Map}
 use Rattle.spec.specs.Terms.{zone_count}
-use Rattle.motion.specs.States.{state_of}
 use Rattle.walking.specs.Given.{Given}
-use Rattle.judge.specs.Filling.{filled_by, Filled, filled_none, filled_more, filled_all}
+use Rattle.judge.specs.Filling.{Filled}
 use Rattle.judge.proofs.ending.fill_lists.Given as goal
 
 abbrev pub invariant-loop-z : goal.invariant-loop-z

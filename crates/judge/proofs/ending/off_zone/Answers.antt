@@ -1,20 +1,9 @@
-use Rattle.motion.specs.Tables.{on_vertices}
 use Rattle.judge.specs.Filling.{goals_by}
 use borrow.Author.Rules.{rules}
-use borrow.Author.Tests.{not-true, not-false}
-use mathlib.Core.List.{List}
-use mathlib.Core.Path.{◌≡◌, refl, sym, ap, ◌∙◌}
-use Prim.Native.Nat.{ℕ, ◌-◌, ◌≤◌, ◌<◌}
-use lib.ListN.{drop}
-use Rattle.spec.specs.Layout.{Map}
-use Rattle.spec.specs.State as meaning
-use Rattle.spec.specs.Run.{goals_from}
+use mathlib.Core.Path.{refl, sym, ap, ◌∙◌}
+use Prim.Native.Nat.{◌<◌}
 use Rattle.spec.specs.Terms.{zone_count}
-use Rattle.theory.specs.Maps.Consistent.{Consistent}
-use Rattle.motion.specs.States.{state_of}
-use Rattle.walking.specs.Given.{Given}
 use Rattle.judge.specs.Endings.{off_zone, goals_next, goals_off, goals_all}
-use Rattle.testing.specs.Held.{Held}
 use Rattle.judge.specs.Judging.{ends_by}
 use Rattle.judge.proofs.ending.off_zone.Goals as goal
 

@@ -1,18 +1,14 @@
-use borrow.Author.Rules.{rules}
 use mir.Syntax.{w8}
 use borrow.Kind.Array.{e_int, good_length}
-use denote.Enum.Declared.{tag_of}
-use Rattle.testing.specs.contracts.PlanFault.{the_type}
 use Rattle.testing.specs.declared.PlanFault.TheVariants as plan
 use Rattle.walking.specs.Left.{start_consistent}
-use Rattle.testing.specs.Fault.{other_fault}
 use Rattle.walking.specs.Given.{has_zone}
 use Rattle.judge.specs.Endings.{off_some, off_none}
 use Rattle.wire.specs.Payload.{payload}
 use Rattle.spec.specs.State as meaning
 use Rattle.motion.specs.States.{state_of}
 use lib.ListN.{length, take}
-use Prim.Native.Nat.{ℕ, ◌≤◌}
+use Prim.Native.Nat.{◌≤◌}
 use native.Mathlib.Omega.{arith}
 use mathlib.Core.Path.{◌≡◌, sym, ap, ◌∙◌}
 use Rattle.testing.specs.Steps.{has_list}

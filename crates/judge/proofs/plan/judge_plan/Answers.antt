@@ -1,7 +1,4 @@
-use borrow.Author.Rules.{rules}
-use native.Mathlib.Omega.{arith}
-use mathlib.Core.Path.{◌≡◌, refl, sym}
-use Prim.Native.Nat.{ℕ}
+use mathlib.Core.Path.{refl, sym}
 use Rattle.theory.specs.Basics.Lists.{get_d_uniform}
 use Rattle.judge.specs.Judging.{judged_none}
 use Rattle.judge.proofs.plan.judge_plan.Goals as goal

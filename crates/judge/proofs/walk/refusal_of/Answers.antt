@@ -1,6 +1,5 @@
 use Rattle.testing.specs.Fault.{refusal_of}
 use mathlib.Core.Path.{sym, ap}
-use borrow.Author.Rules.{rules}
 use Rattle.judge.proofs.walk.refusal_of.Goals as goal
 
 pub returns-in-Short : goal.returns-in-Short

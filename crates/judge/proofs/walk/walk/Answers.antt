@@ -1,20 +1,9 @@
 use borrow.Author.Rules.{rules}
 use Rattle.testing.specs.Fault.{refusal_of}
-use Rattle.testing.specs.Test.{other_tag}
-use denote.Enum.Declared.{tag_of}
-use Rattle.testing.specs.contracts.StepTest.{the_type}
-use Rattle.walking.specs.Given.{Given}
-use Rattle.theory.specs.Maps.Consistent.{Consistent}
-use Rattle.spec.specs.Layout.{Map}
-use Rattle.spec.specs.State.{State}
-use Rattle.wire.specs.Payload.{payload}
-use lib.ListN.{length, take}
-use Prim.Native.Nat.{◌-◌, ◌≤◌}
 use native.Mathlib.Omega.{arith}
-use mathlib.Core.Path.{◌≡◌, sym, ap}
-use Rattle.testing.specs.Held.{Held}
+use mathlib.Core.Path.{◌≡◌, sym}
 use Rattle.judge.specs.Making.{marching_room}
-use Rattle.judge.specs.Judging.{Judging, judging_start, judging_offset, judging_step, judging_next, judging_stop, judging_end}
+use Rattle.judge.specs.Judging.{judging_start, judging_offset, judging_step, judging_next, judging_stop, judging_end}
 use Rattle.judge.proofs.walk.walk.Goals as goal
 
 pub loop-i-init : goal.loop-i-init

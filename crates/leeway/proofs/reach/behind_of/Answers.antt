@@ -1,6 +1,5 @@
 use mathlib.Core.Path.{◌∙◌}
 use Rattle.walking.specs.Kinds.{clique_behind, ring_behind_lem, hall_behind}
-use borrow.Author.Rules.{rules}
 use Rattle.leeway.proofs.reach.behind_of.Goals as goal
 
 pub returns-in-3 : goal.returns-in-3

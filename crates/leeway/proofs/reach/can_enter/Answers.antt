@@ -1,6 +1,5 @@
 use mathlib.Core.Path.{◌∙◌}
 use Rattle.walking.specs.Kinds.{clique_can_enter_lem, ring_can_enter_lem, hall_can_enter_lem}
-use borrow.Author.Rules.{rules}
 use Rattle.leeway.proofs.reach.can_enter.Goals as goal
 
 pub returns-in-3 : goal.returns-in-3

@@ -1,6 +1,5 @@
 use mathlib.Core.Path.{◌∙◌}
 use Rattle.walking.specs.Kinds.{clique_can_leave_lem, ring_can_leave_lem, hall_can_leave_lem}
-use borrow.Author.Rules.{rules}
 use Rattle.leeway.proofs.reach.can_leave.Goals as goal
 
 pub returns-in-3 : goal.returns-in-3

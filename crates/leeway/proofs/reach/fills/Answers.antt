@@ -1,6 +1,5 @@
 use mathlib.Core.Path.{◌∙◌}
 use Rattle.walking.specs.Kinds.{clique_fills, other_fills}
-use borrow.Author.Rules.{rules}
 use Rattle.leeway.proofs.reach.fills.Goals as goal
 
 pub returns-then-kind-eq3 : goal.returns-then-kind-eq3

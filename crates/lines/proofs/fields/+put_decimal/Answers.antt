@@ -1,4 +1,4 @@
-use Rattle.std.proofs.Common.{◌<◌, arith}
+use Rattle.std.proofs.Common.{arith}
 use Rattle.lines.specs.Text.{put_low, put_high, put_ten}
 use Rattle.lines.proofs.fields.+put_decimal.Goals as goal
 

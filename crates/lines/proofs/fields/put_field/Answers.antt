@@ -1,7 +1,6 @@
 use native.Mathlib.Omega.{arith}
 use Rattle.lines.specs.Text.{put_ten}
 use Rattle.lines.specs.Lines.{field_put}
-use borrow.Author.Rules.{rules}
 use Rattle.lines.proofs.fields.put_field.Goals as goal
 
 pub overflow_add-result : goal.overflow_add-result

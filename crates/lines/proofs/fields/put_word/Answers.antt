@@ -1,9 +1,8 @@
-use Prim.Native.Nat.{◌+◌, ◌-◌, ◌≤◌}
+use Prim.Native.Nat.{◌+◌}
 use mathlib.Core.Path.{◌≡◌}
 use native.Mathlib.Omega.{arith}
-use lib.ListN.{length, take}
 use borrow.Author.Rules.{rules}
-use Rattle.lines.specs.Text.{Put, put_none, put_length, put_more, put_all}
+use Rattle.lines.specs.Text.{put_none, put_more, put_all}
 use Rattle.lines.proofs.fields.put_word.Goals as goal
 
 pub loop-i-init : goal.loop-i-init

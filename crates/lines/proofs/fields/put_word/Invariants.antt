@@ -1,9 +1,6 @@
 use Prim.Native.Nat.{◌+◌, ◌-◌, ◌≤◌}
-use mathlib.Core.Path.{◌≡◌}
-use native.Mathlib.Omega.{arith}
 use lib.ListN.{length, take}
-use borrow.Author.Rules.{rules}
-use Rattle.lines.specs.Text.{Put, put_none, put_length, put_more, put_all}
+use Rattle.lines.specs.Text.{Put}
 use Rattle.lines.proofs.fields.put_word.Given as goal
 
 abbrev pub invariant-loop-i : goal.invariant-loop-i

@@ -1,8 +1,6 @@
 use Prim.Native.Nat.{◌-◌}
-use native.Mathlib.Omega.{arith}
 use Rattle.replay.specs.Moves.{file_bytes}
-use Rattle.lines.specs.Text.{put_length}
-use Rattle.lines.specs.Lines.{Lined, lined_start, lined_more, lined_end}
+use Rattle.lines.specs.Lines.{Lined}
 use Rattle.lines.proofs.moves.put_lines.Given as goal
 
 abbrev pub invariant-loop-i : goal.invariant-loop-i

@@ -2,7 +2,6 @@ use native.Mathlib.Omega.{arith}
 use Rattle.lines.specs.Text.{power, put_then}
 use Rattle.lines.specs.Listing.{newline}
 use Rattle.lines.specs.Lines.{field_few}
-use borrow.Author.Rules.{rules}
 use Rattle.lines.proofs.moves.put_moves.Goals as goal
 
 pub returns : goal.returns

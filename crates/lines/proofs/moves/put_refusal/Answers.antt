@@ -1,7 +1,6 @@
 use native.Mathlib.Omega.{arith}
 use Rattle.lines.specs.Text.{put_then}
 use Rattle.lines.specs.Listing.{refused_text}
-use borrow.Author.Rules.{rules}
 use Rattle.lines.proofs.moves.put_refusal.Goals as goal
 
 pub returns : goal.returns

@@ -2,7 +2,6 @@ use native.Mathlib.Omega.{arith}
 use mathlib.Core.Path.{refl, sym}
 use Rattle.checking.specs.Checked.{held_as}
 use Rattle.opening.specs.Opened.{opened_yard, opened_file, opened_list, opened_all}
-use borrow.Author.Rules.{rules}
 use Rattle.opening.proofs.files.open_list.Goals as goal
 
 pub read_yard-y-requires : goal.read_yard-y-requires

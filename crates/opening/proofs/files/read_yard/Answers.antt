@@ -1,6 +1,5 @@
 use native.Mathlib.Omega.{arith}
 use Rattle.opening.specs.Opened.{filed_few, filed_map, yard_map_lem, yard_placing_lem, yard_all}
-use borrow.Author.Rules.{rules}
 use Rattle.opening.proofs.files.read_yard.Goals as goal
 
 pub read_map-m-requires : goal.read_map-m-requires

@@ -1,4 +1,3 @@
-use borrow.Author.Rules.{rules}
 use mathlib.Core.List.{[]}
 use Rattle.opening.specs.Opened.{filed_passed, filed_instance, filed_place}
 use Rattle.planning.specs.Planned.{planned_instance}

@@ -11,7 +11,6 @@ use Rattle.motion.specs.Tables.{tabled}
 use Rattle.motion.specs.World.{made_all}
 use Rattle.walking.specs.Alone.{goals_by, endings_alone}
 use Rattle.resolve.specs.Whole.{cleared_start, cleared_over, cleared_goals, cleared_end}
-use borrow.Author.Rules.{rules}
 use Rattle.resolve.proofs.plan.resolve_plan.Goals as goal
 
 pub walk-w-requires : goal.walk-w-requires

@@ -1,16 +1,15 @@
 use borrow.Author.Rules.{rules}
 use Rattle.stepping.specs.Steps.{next_room, next_to, next_is, next_step, next_made, next_end}
-use Rattle.walking.specs.Walk.{Walking, walk_start, walk_end, walk_over}
+use Rattle.walking.specs.Walk.{walk_start, walk_end, walk_over}
 use Rattle.resolve.specs.Whole.{walked_whole, walked_part}
-use Rattle.walking.specs.Given.{Started, kind_at, vertices_at}
+use Rattle.walking.specs.Given.{kind_at, vertices_at}
 use Rattle.theory.specs.Zones.Crossing.{extra_of}
 use Rattle.motion.specs.World.{world_in}
-use Rattle.wire.specs.Payload.{payload, FourAt, held_length}
-use Rattle.motion.specs.Tables.{tabled, arrangement_alone}
-use lib.ListN.{length, take}
-use Prim.Native.Nat.{◌+◌, ◌-◌, ◌*◌, ◌/◌, ◌≤◌}
+use Rattle.wire.specs.Payload.{payload, held_length}
+use Rattle.motion.specs.Tables.{arrangement_alone}
+use lib.ListN.{take}
 use native.Mathlib.Omega.{arith}
-use mathlib.Core.Path.{◌≡◌, refl, ap, ◌∙◌}
+use mathlib.Core.Path.{refl, ap, ◌∙◌}
 use Rattle.resolve.proofs.walk.walk.Goals as goal
 
 pub loop-i-init : goal.loop-i-init

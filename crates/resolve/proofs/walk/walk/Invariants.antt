@@ -1,16 +1,11 @@
-use borrow.Author.Rules.{rules}
-use Rattle.stepping.specs.Steps.{next_room, next_to, next_is, next_step, next_made, next_end}
-use Rattle.walking.specs.Walk.{Walking, walk_start, walk_end, walk_over}
-use Rattle.resolve.specs.Whole.{walked_whole, walked_part}
-use Rattle.walking.specs.Given.{Started, kind_at, vertices_at}
-use Rattle.theory.specs.Zones.Crossing.{extra_of}
+use Rattle.walking.specs.Walk.{Walking}
+use Rattle.walking.specs.Given.{Started}
 use Rattle.motion.specs.World.{world_in}
-use Rattle.wire.specs.Payload.{payload, FourAt, held_length}
-use Rattle.motion.specs.Tables.{tabled, arrangement_alone}
+use Rattle.wire.specs.Payload.{payload, FourAt}
+use Rattle.motion.specs.Tables.{tabled}
 use lib.ListN.{length, take}
 use Prim.Native.Nat.{◌+◌, ◌-◌, ◌*◌, ◌/◌, ◌≤◌}
-use native.Mathlib.Omega.{arith}
-use mathlib.Core.Path.{◌≡◌, refl, ap, ◌∙◌}
+use mathlib.Core.Path.{◌≡◌}
 use Rattle.resolve.proofs.walk.walk.Given as goal
 
 -- the steps before have been made, and the four bytes of the next one are read, where there is one

@@ -1,12 +1,10 @@
-use borrow.Author.Rules.{rules}
-use native.Mathlib.Omega.{arith}
-use Prim.Native.Nat.{ℕ, ◌+◌, ◌-◌, ◌≤◌}
-use mathlib.Core.Path.{◌≡◌, refl, ap, ◌∙◌}
+use Prim.Native.Nat.{◌≤◌}
+use mathlib.Core.Path.{◌≡◌}
 use lib.ListN.{length, drop}
 use Rattle.spec.specs.Arrangement.{order}
 use Rattle.spec.specs.State.{cell_of, arrangement_of}
 use Rattle.motion.specs.Tables.{on_vertices}
-use Rattle.ring.specs.Ending.{lowest_cell, lowest_lower, lowest_kept, lowest_none}
+use Rattle.ring.specs.Ending.{lowest_cell}
 use Rattle.ring.proofs.ending.lowest.Given as goal
 
 abbrev pub invariant-loop-k : goal.invariant-loop-k

@@ -1,9 +1,9 @@
 use borrow.Author.Rules.{rules}
 use native.Mathlib.Omega.{arith}
-use Prim.Native.Nat.{ℕ, ◌+◌, ◌-◌, ◌≤◌, ◌<◌}
+use Prim.Native.Nat.{ℕ, ◌+◌, ◌<◌}
 use mathlib.Core.Path.{◌≡◌, refl, ap, sym, ◌∙◌}
-use lib.ListN.{length, get_or, take, length-set}
-use Rattle.spec.specs.Ring.{wrap, opened}
+use lib.ListN.{length, get_or, length-set}
+use Rattle.spec.specs.Ring.{wrap}
 use Rattle.circle.specs.Places.{next_place, wrap_in, wrap_under, wrap_next}
 use Rattle.ring.specs.Ending.{opened_copy, opened_copied}
 use Rattle.ring.proofs.ending.open_at.Goals as goal

@@ -1,11 +1,7 @@
-use borrow.Author.Rules.{rules}
-use native.Mathlib.Omega.{arith}
-use Prim.Native.Nat.{ℕ, ◌+◌, ◌-◌, ◌≤◌, ◌<◌}
-use mathlib.Core.Path.{◌≡◌, refl, ap, sym, ◌∙◌}
-use lib.ListN.{length, get_or, take, length-set}
+use Prim.Native.Nat.{◌+◌, ◌-◌, ◌≤◌}
+use mathlib.Core.Path.{◌≡◌}
+use lib.ListN.{length, take}
 use Rattle.spec.specs.Ring.{wrap, opened}
-use Rattle.circle.specs.Places.{next_place, wrap_in, wrap_under, wrap_next}
-use Rattle.ring.specs.Ending.{opened_copy, opened_copied}
 use Rattle.ring.proofs.ending.open_at.Given as goal
 
 abbrev pub invariant-loop-i : goal.invariant-loop-i

@@ -1,6 +1,4 @@
-use borrow.Author.Rules.{rules}
 use native.Mathlib.Omega.{arith}
-use Prim.Native.Nat.{◌-◌}
 use lib.ListN.{take}
 use Rattle.theory.specs.Basics.Searches.{index_le}
 use Rattle.rosters.specs.Finding.{index_rest}

@@ -1,10 +1,7 @@
-use borrow.Author.Rules.{rules}
-use native.Mathlib.Omega.{arith}
 use mathlib.Core.Path.{◌≡◌}
 use mathlib.Core.Bool.{false}
 use Prim.Native.Nat.{ℕ, ◌-◌, ◌≤◌, ◌<◌}
 use lib.ListN.{get_or}
-use Rattle.rosters.specs.Finding.{none_more}
 use Rattle.rosters.proofs.finding.is_among.Given as goal
 
 abbrev pub invariant-loop-i : goal.invariant-loop-i

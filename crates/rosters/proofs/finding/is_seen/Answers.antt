@@ -1,4 +1,3 @@
-use borrow.Author.Rules.{rules}
 use Rattle.theory.specs.Basics.Tests.{of_true}
 use mathlib.Core.Path.{sym}
 use Rattle.rosters.proofs.finding.is_seen.Goals as goal

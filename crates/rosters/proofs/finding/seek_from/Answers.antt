@@ -1,10 +1,9 @@
 use borrow.Author.Rules.{rules}
 use native.Mathlib.Omega.{arith}
 use mathlib.Core.Path.{◌≡◌, ap, ◌∙◌}
-use Prim.Native.Nat.{ℕ, ◌+◌, ◌-◌, ◌≤◌}
+use Prim.Native.Nat.{ℕ, ◌+◌, ◌-◌}
 use lib.ListN.{length, take, drop, length-drop}
-use lib.Seq.{slice, length-take-le}
-use Rattle.spec.specs.Outcome.{index_of}
+use lib.Seq.{length-take-le}
 use Rattle.rosters.specs.Finding.{index_eight}
 use Rattle.rosters.proofs.finding.seek_from.Goals as goal
 

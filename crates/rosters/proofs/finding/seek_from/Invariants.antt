@@ -1,11 +1,7 @@
-use borrow.Author.Rules.{rules}
-use native.Mathlib.Omega.{arith}
-use mathlib.Core.Path.{◌≡◌, ap, ◌∙◌}
-use Prim.Native.Nat.{ℕ, ◌+◌, ◌-◌, ◌≤◌}
-use lib.ListN.{length, take, drop, length-drop}
-use lib.Seq.{slice, length-take-le}
+use mathlib.Core.Path.{◌≡◌}
+use Prim.Native.Nat.{◌+◌, ◌-◌, ◌≤◌}
+use lib.Seq.{slice}
 use Rattle.spec.specs.Outcome.{index_of}
-use Rattle.rosters.specs.Finding.{index_eight}
 use Rattle.rosters.proofs.finding.seek_from.Given as goal
 
 abbrev pub invariant-loop-i : goal.invariant-loop-i

@@ -1,6 +1,4 @@
-use borrow.Author.Rules.{rules}
 use mathlib.Core.Path.{refl}
-use Prim.Native.Nat.{◌-◌}
 use Rattle.rosters.specs.Lists.{part_mid, part_all}
 use Rattle.rosters.proofs.lists.insert.Goals as goal
 

@@ -1,9 +1,7 @@
 use borrow.Author.Rules.{rules}
 use native.Mathlib.Omega.{arith}
-use mathlib.Core.Path.{◌≡◌, refl, sym, ap, ◌∙◌}
-use Prim.Native.Nat.{◌+◌, ◌-◌, ◌≤◌, ◌<◌}
-use lib.ListN.{length, set, get_or}
-use Rattle.rosters.specs.Lists.{Reading, read_none, read_on, read_round, read_all}
+use mathlib.Core.Path.{refl, sym, ◌∙◌}
+use Rattle.rosters.specs.Lists.{read_none, read_on, read_round, read_all}
 use Rattle.rosters.proofs.lists.read_from.Goals as goal
 
 pub loop-i-init : goal.loop-i-init

@@ -1,9 +1,7 @@
-use borrow.Author.Rules.{rules}
-use native.Mathlib.Omega.{arith}
-use mathlib.Core.Path.{◌≡◌, refl, sym, ap, ◌∙◌}
-use Prim.Native.Nat.{◌+◌, ◌-◌, ◌≤◌, ◌<◌}
-use lib.ListN.{length, set, get_or}
-use Rattle.rosters.specs.Lists.{Reading, read_none, read_on, read_round, read_all}
+use mathlib.Core.Path.{◌≡◌}
+use Prim.Native.Nat.{◌-◌, ◌≤◌, ◌<◌}
+use lib.ListN.{length}
+use Rattle.rosters.specs.Lists.{Reading}
 use Rattle.rosters.proofs.lists.read_from.Given as goal
 
 abbrev pub invariant-loop-i : goal.invariant-loop-i

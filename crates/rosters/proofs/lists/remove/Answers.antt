@@ -1,6 +1,4 @@
-use borrow.Author.Rules.{rules}
 use native.Mathlib.Omega.{arith}
-use Prim.Native.Nat.{◌-◌}
 use Rattle.rosters.specs.Lists.{shift_start, shift_none, shift_choice, shift_mid, shift_all}
 use Rattle.rosters.proofs.lists.remove.Goals as goal
 

@@ -1,9 +1,8 @@
-use borrow.Author.Rules.{rules}
 use native.Mathlib.Omega.{arith}
 use mathlib.Core.Path.{◌≡◌, refl}
-use Prim.Native.Nat.{◌-◌, ◌<◌}
+use Prim.Native.Nat.{◌-◌}
 use lib.ListN.{length}
-use Rattle.rosters.specs.Lists.{Shifting, shift_none, shift_more}
+use Rattle.rosters.specs.Lists.{shift_none, shift_more}
 use Rattle.rosters.proofs.lists.shift_down.Goals as goal
 
 pub loop-i-init : goal.loop-i-init

@@ -1,9 +1,7 @@
-use borrow.Author.Rules.{rules}
-use native.Mathlib.Omega.{arith}
-use mathlib.Core.Path.{◌≡◌, refl}
+use mathlib.Core.Path.{◌≡◌}
 use Prim.Native.Nat.{◌-◌, ◌<◌}
 use lib.ListN.{length}
-use Rattle.rosters.specs.Lists.{Shifting, shift_none, shift_more}
+use Rattle.rosters.specs.Lists.{Shifting}
 use Rattle.rosters.proofs.lists.shift_down.Given as goal
 
 abbrev pub invariant-loop-i : goal.invariant-loop-i

@@ -1,9 +1,6 @@
-use borrow.Author.Rules.{rules}
 use native.Mathlib.Omega.{arith}
 use mathlib.Core.Path.{◌≡◌, refl}
-use Prim.Native.Nat.{◌-◌, ◌≤◌, ◌<◌}
-use lib.ListN.{length}
-use Rattle.rosters.specs.Lists.{Parting, part_none, part_more}
+use Rattle.rosters.specs.Lists.{part_none, part_more}
 use Rattle.rosters.proofs.lists.shift_up.Goals as goal
 
 pub loop-i-init : goal.loop-i-init

@@ -1,9 +1,7 @@
-use borrow.Author.Rules.{rules}
-use native.Mathlib.Omega.{arith}
-use mathlib.Core.Path.{◌≡◌, refl}
+use mathlib.Core.Path.{◌≡◌}
 use Prim.Native.Nat.{◌-◌, ◌≤◌, ◌<◌}
 use lib.ListN.{length}
-use Rattle.rosters.specs.Lists.{Parting, part_none, part_more}
+use Rattle.rosters.specs.Lists.{Parting}
 use Rattle.rosters.proofs.lists.shift_up.Given as goal
 
 abbrev pub invariant-loop-i : goal.invariant-loop-i

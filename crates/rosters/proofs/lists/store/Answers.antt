@@ -1,9 +1,7 @@
 use borrow.Author.Rules.{rules}
 use native.Mathlib.Omega.{arith}
-use mathlib.Core.Path.{◌≡◌, refl, sym, ap, ◌∙◌}
-use Prim.Native.Nat.{◌+◌, ◌-◌, ◌≤◌, ◌<◌}
-use lib.ListN.{length, set, get_or}
-use Rattle.rosters.specs.Lists.{Storing, store_none, store_more, store_all}
+use mathlib.Core.Path.{refl}
+use Rattle.rosters.specs.Lists.{store_none, store_more, store_all}
 use Rattle.rosters.proofs.lists.store.Goals as goal
 
 pub loop-i-init : goal.loop-i-init

@@ -1,9 +1,7 @@
-use borrow.Author.Rules.{rules}
-use native.Mathlib.Omega.{arith}
-use mathlib.Core.Path.{◌≡◌, refl, sym, ap, ◌∙◌}
-use Prim.Native.Nat.{◌+◌, ◌-◌, ◌≤◌, ◌<◌}
-use lib.ListN.{length, set, get_or}
-use Rattle.rosters.specs.Lists.{Storing, store_none, store_more, store_all}
+use mathlib.Core.Path.{◌≡◌}
+use Prim.Native.Nat.{◌-◌, ◌≤◌}
+use lib.ListN.{length}
+use Rattle.rosters.specs.Lists.{Storing}
 use Rattle.rosters.proofs.lists.store.Given as goal
 
 abbrev pub invariant-loop-i : goal.invariant-loop-i

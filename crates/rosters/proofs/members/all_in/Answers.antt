@@ -1,10 +1,8 @@
 use borrow.Author.Rules.{rules}
 use native.Mathlib.Omega.{arith}
-use Prim.Native.Nat.{◌-◌, ◌≤◌}
-use mathlib.Core.Path.{◌≡◌, refl, ◌∙◌}
+use mathlib.Core.Path.{refl, ◌∙◌}
 use lib.ListN.{take}
-use lib.Seq.{length-take-le, slice}
-use Rattle.spec.specs.Outcome.{all, member}
+use lib.Seq.{length-take-le}
 use Rattle.rosters.specs.Members.{all_there, all_missing, all_done}
 use Rattle.rosters.proofs.members.all_in.Goals as goal
 

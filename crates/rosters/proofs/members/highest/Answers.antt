@@ -1,7 +1,5 @@
 use borrow.Author.Rules.{rules}
 use native.Mathlib.Omega.{arith}
-use Prim.Native.Nat.{ℕ, ◌-◌, ◌≤◌, ◌<◌}
-use lib.ListN.{get_or, length}
 use Rattle.rosters.specs.Members.{high_more, high_all}
 use Rattle.rosters.proofs.members.highest.Goals as goal
 

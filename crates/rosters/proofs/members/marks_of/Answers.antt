@@ -1,9 +1,7 @@
 use borrow.Author.Rules.{rules}
 use native.Mathlib.Omega.{arith}
-use mathlib.Core.Path.{◌≡◌, refl, ◌∙◌}
-use Prim.Native.Nat.{◌-◌, ◌≤◌}
-use lib.ListN.{length, drop}
-use Rattle.rosters.specs.Members.{marked, mark_next, mark_end}
+use mathlib.Core.Path.{refl, ◌∙◌}
+use Rattle.rosters.specs.Members.{mark_next, mark_end}
 use Rattle.rosters.proofs.members.marks_of.Goals as goal
 
 pub loop-i-init : goal.loop-i-init

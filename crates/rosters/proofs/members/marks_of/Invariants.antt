@@ -1,9 +1,7 @@
-use borrow.Author.Rules.{rules}
-use native.Mathlib.Omega.{arith}
-use mathlib.Core.Path.{◌≡◌, refl, ◌∙◌}
+use mathlib.Core.Path.{◌≡◌}
 use Prim.Native.Nat.{◌-◌, ◌≤◌}
 use lib.ListN.{length, drop}
-use Rattle.rosters.specs.Members.{marked, mark_next, mark_end}
+use Rattle.rosters.specs.Members.{marked}
 use Rattle.rosters.proofs.members.marks_of.Given as goal
 
 abbrev pub invariant-loop-i : goal.invariant-loop-i

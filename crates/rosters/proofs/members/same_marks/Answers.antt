@@ -1,4 +1,3 @@
-use borrow.Author.Rules.{rules}
 use mathlib.Core.Path.{ap₂, ◌∙◌}
 use lib.Dec.{eqb}
 use Rattle.rosters.specs.Members.{words_same}

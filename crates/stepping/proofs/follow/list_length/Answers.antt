@@ -1,7 +1,6 @@
-use Rattle.motion.specs.Tables.{tabled, on_vertices}
+use Rattle.motion.specs.Tables.{on_vertices}
 use mathlib.Core.Path.{sym, ◌∙◌}
 use Rattle.walking.specs.Held.{extra_filled, extra_none}
-use borrow.Author.Rules.{rules}
 use Rattle.stepping.proofs.follow.list_length.Goals as goal
 
 pub returns-then-fills : goal.returns-then-fills

@@ -6,7 +6,6 @@ use lib.ListN.{get_or}
 use Prim.Native.Nat.{ℕ}
 use mathlib.Core.List.{List}
 use mathlib.Core.Path.{ap, ◌∙◌}
-use borrow.Author.Rules.{rules}
 use Rattle.stepping.proofs.follow.list_length_at.Goals as goal
 
 pub returns : goal.returns

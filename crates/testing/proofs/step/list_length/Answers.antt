@@ -1,4 +1,3 @@
-use borrow.Author.Rules.{rules}
 use Rattle.testing.specs.Steps.{extra_other, extra_filled, extra_free}
 use native.Mathlib.Omega.{arith}
 use Rattle.testing.proofs.step.list_length.Goals as goal

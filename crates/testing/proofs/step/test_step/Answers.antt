@@ -1,9 +1,7 @@
-use borrow.Author.Rules.{rules}
 use native.Mathlib.Omega.{arith}
-use Prim.Native.Nat.{◌-◌, ◌<◌}
+use Prim.Native.Nat.{◌<◌}
 use mathlib.Core.Path.{refl, sym, ◌∙◌}
 use lib.ListN.{take}
-use borrow.Author.Tests.{not-true, not-false}
 use Rattle.wire.specs.Payload.{payload, held_length}
 use Rattle.testing.specs.Testing.{step_number, step_edge, step_leave, step_enter}
 use Rattle.testing.specs.Testing.{numbers_below}

@@ -1,7 +1,5 @@
 use mathlib.Core.Path.{sym, ◌∙◌}
-use borrow.Author.Tests.{not-true, not-false}
 use Rattle.testing.specs.Testing.{crosses_none, crosses_inside, crosses_over}
-use borrow.Author.Rules.{rules}
 use Rattle.testing.proofs.tests.is_crossing.Goals as goal
 
 pub returns-then-not-joined : goal.returns-then-not-joined

@@ -4,7 +4,7 @@ use Prim.Native.Nat.{ℕ, ◌+◌, ◌-◌, ◌<◌}
 use mathlib.Core.Path.{◌≡◌, refl, ap, sym, ◌∙◌}
 use lib.ListN.{length, get_or, take}
 use Rattle.spec.specs.Arrangement.{last_named}
-use Rattle.spec.specs.Ring.{wrap, opened, ring_behind}
+use Rattle.spec.specs.Ring.{wrap, opened}
 use Rattle.spec.specs.State.{robot_on, arrangement_of}
 use Rattle.motion.specs.Tables.{on_vertices}
 use Rattle.circle.specs.Places.{previous_place, wrap_under, wrap_previous}

@@ -1,14 +1,10 @@
-use borrow.Author.Rules.{rules}
-use native.Mathlib.Omega.{arith}
-use Prim.Native.Nat.{ℕ, ◌+◌, ◌-◌, ◌<◌}
-use mathlib.Core.Path.{◌≡◌, refl, ap, sym, ◌∙◌}
-use lib.ListN.{length, get_or, take}
+use Prim.Native.Nat.{◌+◌, ◌<◌}
+use mathlib.Core.Path.{◌≡◌}
+use lib.ListN.{length, take}
 use Rattle.spec.specs.Arrangement.{last_named}
 use Rattle.spec.specs.Ring.{wrap, opened, ring_behind}
-use Rattle.spec.specs.State.{robot_on, arrangement_of}
+use Rattle.spec.specs.State.{arrangement_of}
 use Rattle.motion.specs.Tables.{on_vertices}
-use Rattle.circle.specs.Places.{previous_place, wrap_under, wrap_previous}
-use Rattle.turns.specs.Entry.{walk_start, walk_all, walk_free, walk_taken, walk_over}
 use Rattle.turns.proofs.turning.look_back.Given as goal
 
 abbrev pub invariant-loop-k : goal.invariant-loop-k

@@ -1,10 +1,5 @@
 use borrow.Author.Rules.{rules}
 use native.Mathlib.Omega.{arith}
-use Prim.Native.Nat.{◌+◌, ◌-◌, ◌≤◌}
-use mathlib.Core.Path.{◌≡◌}
-use lib.ListN.{length, drop}
-use Rattle.spec.specs.Arrangement.{order}
-use Rattle.spec.specs.State.{arrangement_of}
 use Rattle.motion.specs.Tables.{on_vertices}
 use Rattle.vacating.specs.Counts.{count_robot, count_none, count_end}
 use Rattle.vacating.proofs.counting.count_robots.Goals as goal

@@ -1,4 +1,3 @@
-use borrow.Author.Rules.{rules}
 use Rattle.motion.specs.Tables.{on_vertices}
 use Rattle.vacating.specs.Counts.{last_free_none, last_free_is}
 use Rattle.vacating.proofs.counting.last_free.Goals as goal

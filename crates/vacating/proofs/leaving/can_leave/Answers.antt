@@ -1,5 +1,4 @@
 use lib.Dec.{ltb}
-use borrow.Author.Rules.{rules}
 use Prim.Native.Nat.{ℕ}
 use mathlib.Core.Path.{ap, sym, ◌∙◌}
 use lib.ListN.{length}

@@ -1,4 +1,3 @@
-use borrow.Author.Rules.{rules}
 use mathlib.Core.Path.{ap, ◌∙◌}
 use Rattle.spec.specs.Arrangement.{mv, seek}
 use Rattle.spec.specs.State.{arrangement_of}

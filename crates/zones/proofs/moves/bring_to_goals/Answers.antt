@@ -5,7 +5,6 @@ use Rattle.spec.specs.State.{across, arrangement_of}
 use Rattle.spec.specs.Arrangement.{Move}
 use mathlib.Core.List.{List}
 use mathlib.Core.Path.{ap, ◌∙◌}
-use borrow.Author.Rules.{rules}
 use Rattle.zones.proofs.moves.bring_to_goals.Goals as goal
 
 pub bring_to_goals-requires : goal.bring_to_goals-requires

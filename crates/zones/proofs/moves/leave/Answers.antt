@@ -5,7 +5,6 @@ use Rattle.spec.specs.State.{across, arrangement_of}
 use Rattle.motion.specs.Tables.{on_vertices}
 use Rattle.motion.specs.World.{world_in, made_all}
 use Rattle.walking.specs.Kinds.{clique_leave_lem, ring_leave_lem, hall_leave_lem, ring_can_leave_lem}
-use borrow.Author.Rules.{rules}
 use Rattle.zones.proofs.moves.leave.Goals as goal
 
 pub leave-requires-in-4 : goal.leave-requires-in-4
