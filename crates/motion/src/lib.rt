@@ -65,7 +65,8 @@ pub fn moved(s: State, r: Robot, from: Vertex, to: Vertex) -> State
     if taken < 128 {
         t.robots[taken] = r;
     }
-    if robot < 64 {
+    let listed = robot < 64;
+    if listed {
         t.vertices[robot] = to;
     }
     t

@@ -6,8 +6,8 @@ use borrow.Author.Rules.{rules}
 use Rattle.motion.proofs.moved.Goals as goal
 use Rattle.motion.proofs.moved.Goals.{then-left-lt128, else-left-lt128, then-taken-lt128, else-taken-lt128}
 
-pub returns-then-robot-lt64 : goal.returns-then-robot-lt64
-returns-then-robot-lt64 c =
+pub returns-then-listed : goal.returns-then-listed
+returns-then-listed c =
     let a = c.args in
     let t₁ = c.if-left-lt128.t in
     let t₂ = c.if-taken-lt128.t in
@@ -19,8 +19,8 @@ returns-then-robot-lt64 c =
     elim c.if-taken-lt128.branch [ then-taken-lt128 w ↦ w.t-is | else-taken-lt128 w ↦ w.t-is ∙ robot_past_end t₁ a.to.0 a.r d w.if-taken-lt128.false ] in
     moved_leaves a.s t₁ t₂ _ a.r a.from a.to p q refl
 
-pub returns-else-robot-lt64 : goal.returns-else-robot-lt64
-returns-else-robot-lt64 c =
+pub returns-else-listed : goal.returns-else-listed
+returns-else-listed c =
     let a = c.args in
     let t₁ = c.if-left-lt128.t in
     let t₂ = c.if-taken-lt128.t in
@@ -32,4 +32,4 @@ returns-else-robot-lt64 c =
     elim c.if-taken-lt128.branch [ then-taken-lt128 w ↦ w.t-is | else-taken-lt128 w ↦ w.t-is ∙ robot_past_end t₁ a.to.0 a.r d w.if-taken-lt128.false ] in
     let v : length a.s.vertices ≡ 64 = search (rules, length_mapped) in
     let g : length t₂.vertices ≡ 64 = ap (λ (x : State). length x.vertices) q ∙ ap (λ (x : State). length x.vertices) p ∙ v in
-    moved_leaves a.s t₁ t₂ t₂ a.r a.from a.to p q (vertex_past_end t₂ a.r.0 a.to g c.if-robot-lt64.false)
+    moved_leaves a.s t₁ t₂ t₂ a.r a.from a.to p q (vertex_past_end t₂ a.r.0 a.to g (search rules))
