@@ -5,8 +5,6 @@ use mathlib.Core.Path.{◌≡◌}
 use lib.ListN.{length}
 use Rattle.answers.proofs.clear.Given as goal
 
--- `clear`: at each turn, the bytes passed are zero and the others as they were.
-
 abbrev pub invariant-loop-o : goal.invariant-loop-o
 invariant-loop-o l = (l.from ≤ l.o) × (l.o ≤ l.end) × (length l.out ≡ length l.initial.out) × (l.out ≡ cleared l.initial.out l.from l.o)
 

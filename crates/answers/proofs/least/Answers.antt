@@ -4,8 +4,6 @@ use native.Mathlib.Omega.{arith}
 use mathlib.Core.Path.{refl}
 use Rattle.answers.proofs.least.Goals as goal
 
--- `least`: by cases.
-
 pub returns-then-n-le504 : goal.returns-then-n-le504
 returns-then-n-le504 c = inl (refl, c.if-n-le504.true)
 

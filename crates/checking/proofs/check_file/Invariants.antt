@@ -3,8 +3,6 @@ use Prim.Native.Nat.{◌-◌}
 use Rattle.checking.specs.Checked.{Going}
 use Rattle.checking.proofs.check_file.Given as goal
 
--- `check_file`: at each turn, what is left to check gives what the whole file gives (`Going`); one law for each way out.
-
 abbrev pub invariant-loop-i : goal.invariant-loop-i
 invariant-loop-i l = Going l.kind l.limit l.file l.count l.i l.len
 

@@ -4,8 +4,6 @@ use Rattle.spec.specs.Outcome.{◌and◌}
 use Rattle.spec.specs.Wire.{filled}
 use Rattle.checking.proofs.fill_allowed.Goals as goal
 
--- `fill_allowed`: a full block, a last block, a fill of 0.
-
 pub returns-then-not-last : goal.returns-then-not-last
 unfolding filled
 returns-then-not-last c = simp (filled, c.if-not-last.true)

@@ -6,8 +6,6 @@ use Rattle.spec.specs.Wire.{sum_words}
 use Rattle.checksum.specs.Sum.{folded, plain}
 use Rattle.checksum.proofs.total.Given as goal
 
--- `total`: at each turn, what is summed so far with the words still left folds to the sum of all words.
-
 abbrev pub invariant-loop-o : goal.invariant-loop-o
 invariant-loop-o l =
     (l.o ≤ 512) × (l.o % 8 ≡ 0) × (l.even * 8 ≤ 4294967295 * l.o) × (l.odd * 8 ≤ 4294967295 * l.o)

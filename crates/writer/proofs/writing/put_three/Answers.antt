@@ -8,8 +8,6 @@ use Rattle.wire.specs.Payload.{place_of}
 use Rattle.writer.specs.Laid.{laid_out, laid_three}
 use Rattle.writer.proofs.writing.put_three.Goals as goal
 
--- `put_three`: the bytes stand side by side, or are laid one by one.
-
 pub returns-then-out-off : goal.returns-then-out-off
 returns-then-out-off c =
     let a = c.args in

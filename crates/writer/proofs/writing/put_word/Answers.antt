@@ -7,8 +7,6 @@ use Rattle.spec.specs.Outcome.{u16}
 use Rattle.writer.specs.Laid.{laid_out, laid_two}
 use Rattle.writer.proofs.writing.put_word.Goals as goal
 
--- `put_word`: the two bytes stand side by side, or are laid one by one.
-
 pub returns-then-out-off : goal.returns-then-out-off
 unfolding u16
 returns-then-out-off c =
