@@ -84,14 +84,16 @@ pub fn deliver(out: &mut [u8], kind: u8, limit: u16, len: usize) -> Delivered
 {
     let most = 504 * (limit as usize);
     let room = out.len() / 512 * 504;
-    if len > most {
+    let over = len > most;
+    if over {
         zero(out);
         return Delivered {
             number: 61,
             value: 0,
         };
     }
-    if len > room {
+    let short = len > room;
+    if short {
         zero(out);
         return Delivered {
             number: 60,

@@ -26,7 +26,8 @@ fn sum_ok(file: &[u8], at: usize) -> bool
     ensures { result ≡ sum_ok (block_at file.now at) }
 {
     let stored = word_at(file, at + 510);
-    if stored == 65535 {
+    let all_ones = stored == 65535;
+    if all_ones {
         return zeros(file, at, at + 510);
     }
     let s = total(file, at);

@@ -51,7 +51,8 @@ pub fn push(
         let w = vertex_at(zone, to);
         let mut r = robot_on(robots, v);
         k -= 1;
-        if k == 0 {
+        let last = k == 0;
+        if last {
             r = first;
         }
         count = make(robots, vertices, count, r, v, w, out);

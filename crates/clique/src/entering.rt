@@ -103,7 +103,8 @@ pub fn can_enter(robots: &[u8], zone: &[u8], r: Robot, j: usize, behind: u8, lis
     requires { (length zone.now ≤ 128) × (length list.now ≤ 128) }
     ensures { result ≡ clique_can_enter (arrangement_of (on_vertices robots.now) zone.now) r.0 j behind list.now }
 {
-    if behind != 255 {
+    let behind_named = behind != 255;
+    if behind_named {
         return false;
     }
     let last = last_free(robots, zone);

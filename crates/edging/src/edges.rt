@@ -110,10 +110,12 @@ fn holds_word(m: usize, o: usize) -> bool
 fn before_count(covered: bool, there: bool, o: usize) -> MapFault
     ensures { CountAt covered there o result }
 {
-    if !covered {
+    let uncovered = !covered;
+    if uncovered {
         return MapFault::Listing(o);
     }
-    if !there {
+    let cut = !there;
+    if cut {
         return MapFault::Short(o);
     }
     MapFault::None

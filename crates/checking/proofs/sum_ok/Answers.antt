@@ -1,16 +1,19 @@
 -- `sum_ok`: the sum of all words tells whether the stored one is the checksum of the others.
+use borrow.Author.Rules.{rules}
 use native.Mathlib.Omega.{arith}
 use Prim.Native.Nat.{◌+◌, ◌-◌}
-use mathlib.Core.Path.{sym, ◌∙◌}
+use mathlib.Core.Path.{◌≡◌, sym, ◌∙◌}
+use mathlib.Core.Logic.{◌≢◌}
 use Rattle.checking.specs.Block.{sum_is}
 use Rattle.checksum.specs.Sum.{stored_zeros, stored_nothing, stored_sums}
 use Rattle.checking.proofs.sum_ok.Goals as goal
 
-pub returns-then-stored-eq65535 : goal.returns-then-stored-eq65535
-returns-then-stored-eq65535 c =
+pub returns-then-all_ones : goal.returns-then-all_ones
+returns-then-all_ones c =
     let a = c.args in
     let k = c.shared_slice_known-1.given in
-    c.zeros.ensures ∙ stored_zeros a.file.now a.at (λ i. omega (arith, k i)) (omega arith) (sym c.word_at-stored.ensures.0 ∙ c.if-stored-eq65535.true) (a.at + 510 - a.at) (omega arith) ∙ sym (sum_is a.file.now a.at)
+    let q : c.word_at-stored.result ≡ 65535 = search rules in
+    c.zeros.ensures ∙ stored_zeros a.file.now a.at (λ i. omega (arith, k i)) (omega arith) (sym c.word_at-stored.ensures.0 ∙ q) (a.at + 510 - a.at) (omega arith) ∙ sym (sum_is a.file.now a.at)
 
 pub returns-then-s-eq0 : goal.returns-then-s-eq0
 returns-then-s-eq0 c =
@@ -22,4 +25,5 @@ pub returns : goal.returns
 returns c =
     let a = c.args in
     let k = c.shared_slice_known-1.given in
-    stored_sums a.file.now a.at (λ i. omega (arith, k i)) (omega arith) c.total-s.result c.total-s.ensures.0 (λ z. c.if-stored-eq65535.false (c.word_at-stored.ensures.0 ∙ z)) (omega arith) ∙ sym (sum_is a.file.now a.at)
+    let q : c.word_at-stored.result ≢ 65535 = search rules in
+    stored_sums a.file.now a.at (λ i. omega (arith, k i)) (omega arith) c.total-s.result c.total-s.ensures.0 (λ z. q (c.word_at-stored.ensures.0 ∙ z)) (omega arith) ∙ sym (sum_is a.file.now a.at)

@@ -14,7 +14,7 @@ use Rattle.circle.specs.Runs.{run_at, run_on, run_stops, run_round, run_robot}
 use Rattle.circle.specs.Pushes.{push_from, push_none, push_all, push_step, unmoved_all, unmoved_behind}
 use Rattle.numbering.specs.declared.Robot.{Robot}
 use Rattle.circle.proofs.pushing.push.Goals as goal
-use Rattle.circle.proofs.pushing.push.Goals.{then-k-m, else-k-m+then-r, then-k-eq0, else-k-eq0}
+use Rattle.circle.proofs.pushing.push.Goals.{then-k-m, else-k-m+then-r, then-last, else-last}
 
 pub loop-k-init : goal.loop-k-init
 loop-k-init c =
@@ -81,12 +81,12 @@ loop-k-2-preserved c =
     let d : c.beside-from.result ≡ wrap m (a.p + k) = c.beside-from.ensures ∙ beside_back m o.to false refl ∙ ap (previous_place m) b ∙ wrap_previous m a.p k h l in
     let v : c.vertex_at-v-in-loop-k-2.result.0 ≡ get_or z (wrap m (a.p + k)) 0 = c.vertex_at-v-in-loop-k-2.ensures ∙ ap (λ (i : ℕ). get_or z i 0) d in
     let t : c.vertex_at-w.result.0 ≡ get_or z (wrap m (a.p + (k + 1))) 0 = c.vertex_at-w.ensures ∙ ap (λ (i : ℕ). get_or z i 0) b in
-    let e : c.if-k-eq0.r.0 ≡ robot_on s (get_or z (wrap m (a.p + k)) 0) =
-    elim c.if-k-eq0.branch [
-      | then-k-eq0 w ↦ ap (λ (x : Robot). x.0) w.r-is ∙ c.robot_on-first.ensures ∙ ap (robot_on s) (c.vertex_at.ensures ∙ ap (λ (i : ℕ). get_or z i 0) (sym (wrap_in m a.p h) ∙ ap (λ (i : ℕ). wrap m (a.p + i)) (sym w.if-k-eq0.true)))
-      | else-k-eq0 w ↦ ap (λ (x : Robot). x.0) w.r-is ∙ c.robot_on-r-in-loop-k-2.ensures ∙ ap (robot_on (on_vertices o.robots)) v ∙ o.invariant.8.stays k (omega (arith, w.if-k-eq0.false)) (omega arith)
+    let e : c.if-last.r.0 ≡ robot_on s (get_or z (wrap m (a.p + k)) 0) =
+    elim c.if-last.branch [
+      | then-last w ↦ ap (λ (x : Robot). x.0) w.r-is ∙ c.robot_on-first.ensures ∙ ap (robot_on s) (c.vertex_at.ensures ∙ ap (λ (i : ℕ). get_or z i 0) (sym (wrap_in m a.p h) ∙ ap (λ (i : ℕ). wrap m (a.p + i)) (sym w.if-last.true)))
+      | else-last w ↦ ap (λ (x : Robot). x.0) w.r-is ∙ c.robot_on-r-in-loop-k-2.ensures ∙ ap (robot_on (on_vertices o.robots)) v ∙ o.invariant.8.stays k (omega (arith, w.if-last.false)) (omega arith)
     ] in
-    let r : c.if-k-eq0.r.0 ≡ get_or (run_at s z a.p) k 0 = run_robot s z a.p h k c.if-k-eq0.r.0 (omega arith) l e in (
+    let r : c.if-last.r.0 ≡ get_or (run_at s z a.p) k 0 = run_robot s z a.p h k c.if-last.r.0 (omega arith) l e in (
       search rules,
       search rules,
       search rules,
@@ -94,10 +94,10 @@ loop-k-2-preserved c =
       omega arith,
       omega arith,
       d,
-      push_step (world_in a.robots.now a.vertices.now a.count a.out.now) (world_in o.robots o.vertices o.count o.out) _ s z a.p k c.if-k-eq0.r.0 c.beside-from.result o.to (omega arith) r d b
+      push_step (world_in a.robots.now a.vertices.now a.count a.out.now) (world_in o.robots o.vertices o.count o.out) _ s z a.p k c.if-last.r.0 c.beside-from.result o.to (omega arith) r d b
           (o.invariant.7 ∙ ap (λ (i : ℕ). made_all (world_in a.robots.now a.vertices.now a.count a.out.now) (across z (push_from s z a.p i))) i)
-          (c.make-count.ensures ∙ ap (made (world_in o.robots o.vertices o.count o.out)) (across_move_lem z _ c.if-k-eq0.r.0 c.beside-from.result o.to _ _ refl c.vertex_at-v-in-loop-k-2.ensures c.vertex_at-w.ensures)),
-      unmoved_behind s (world_in o.robots o.vertices o.count o.out) _ z _ a.p k c.if-k-eq0.r.0 _ _ c.requires.listed h l v t c.make-count.ensures (rw (sym i) o.invariant.8),
+          (c.make-count.ensures ∙ ap (made (world_in o.robots o.vertices o.count o.out)) (across_move_lem z _ c.if-last.r.0 c.beside-from.result o.to _ _ refl c.vertex_at-v-in-loop-k-2.ensures c.vertex_at-w.ensures)),
+      unmoved_behind s (world_in o.robots o.vertices o.count o.out) _ z _ a.p k c.if-last.r.0 _ _ c.requires.listed h l v t c.make-count.ensures (rw (sym i) o.invariant.8),
     )
 
 pub returns : goal.returns
