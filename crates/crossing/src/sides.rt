@@ -49,7 +49,8 @@ fn leave_in(
     requires proper { Proper (arrangement_of (tabled robots.old vertices.old) zone.now) }
     ensures { world_in robots.new vertices.new result out.new ≡ made_all (world_in robots.old vertices.old count out.old) (across zone.now (leave_moves kind (arrangement_of (tabled robots.old vertices.old) zone.now) r j)) }
 {
-    let vacant = motion::robot_in(robots, u) == 255;
+    let there = motion::robot_in(robots, u);
+    let vacant = there == 255;
     if vacant {
         let i = near_place(kind, zone.len(), j);
         let x = robot_at(robots, zone, i);

@@ -10,8 +10,8 @@ pub returns-then-x-r : goal.returns-then-x-r
 unfolding arrangement_of
 returns-then-x-r c =
     let a = c.args in
-    let q : c.robot_in-vacant.result ≡ 255 = search rules in
-    left_near a.kind (tabled a.robots.now a.vertices.now) a.zone.now c.requires.proper a.j c.requires.zone_len_bound.1 a.r a.u.0 _ _ _ (world_in a.robots.now a.vertices.now a.count a.out.now) _ c.requires.zone_len_bound.2 c.requires.j_value (sym q ∙ c.robot_in-vacant.ensures) c.near_place-i.ensures c.robot_at-x.ensures c.if-x-r.true c.vertex_at-w.ensures c.make.ensures
+    let q : c.robot_in-there.result ≡ 255 = search rules in
+    left_near a.kind (tabled a.robots.now a.vertices.now) a.zone.now c.requires.proper a.j c.requires.zone_len_bound.1 a.r a.u.0 _ _ _ (world_in a.robots.now a.vertices.now a.count a.out.now) _ c.requires.zone_len_bound.2 c.requires.j_value (sym q ∙ c.robot_in-there.ensures) c.near_place-i.ensures c.robot_at-x.ensures c.if-x-r.true c.vertex_at-w.ensures c.make.ensures
 
 pub leave-requires : goal.leave-requires
 unfolding arrangement_of
