@@ -60,7 +60,8 @@ fn fill_allowed(n: usize, last: bool) -> bool
     if !last {
         return n == 504;
     }
-    if 1 <= n {
+    let some = 1 <= n;
+    if some {
         return n <= 504;
     }
     false

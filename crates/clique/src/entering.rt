@@ -136,11 +136,12 @@ fn fill_in(
     cells_of(robots, zone, cells);
     goal_cells(list, j, goal);
     let there = same_cells(cells, goal);
-    if there {
-        return count;
+    let moves = !there;
+    if moves {
+        let n = zone.len() * 2;
+        return go_toward(robots, vertices, count, zone, cells, goal, n, out);
     }
-    let n = zone.len() * 2;
-    go_toward(robots, vertices, count, zone, cells, goal, n, out)
+    count
 }
 
 // The robots inside go to the follow list's arrangement.

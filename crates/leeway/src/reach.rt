@@ -44,7 +44,8 @@ pub fn is_full(robots: &[u8], zone: &[u8]) -> bool
 pub fn fills(kind: u8, robots: &[u8], zone: &[u8]) -> bool
     ensures { result ≡ (eqb kind 3 and last_free (arrangement_of (on_vertices robots.now) zone.now)) }
 {
-    if kind == 3 {
+    let is_clique = kind == 3;
+    if is_clique {
         return vacating::last_free(robots, zone);
     }
     false

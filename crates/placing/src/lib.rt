@@ -123,7 +123,8 @@ fn read_payload(file: &[u8], m: usize, n: usize) -> PlacingRead
         return refused(PlacingFault::Short(0));
     }
     let k = wire::payload_byte(file, 0);
-    if k > 64 {
+    let many = k > 64;
+    if many {
         return refused(PlacingFault::Range);
     }
     if k as usize > n {

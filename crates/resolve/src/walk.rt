@@ -34,7 +34,8 @@ pub fn walk<'a>(
     let mut i: usize = 0;
     let mut four = wire::payload_ahead(file, o);
     while i < count {
-        if 21503 < made {
+        let over = 21503 < made;
+        if over {
             return Walked {
                 over: true,
                 made: made,

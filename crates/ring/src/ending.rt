@@ -20,7 +20,8 @@ pub fn lowest(robots: &[u8], zone: &[u8]) -> Robot
     while 0 < k {
         k -= 1;
         let x = robot_at(robots, zone, k);
-        if x.0 < best {
+        let lower = x.0 < best;
+        if lower {
             best = x.0;
         }
     }

@@ -56,7 +56,8 @@ fn free_cells(cells: &[u8]) -> u64
         k -= 1;
         let x = cells[k];
         w = w * 2;
-        if x == 0 {
+        let empty = x == 0;
+        if empty {
             w += 1;
         }
     }

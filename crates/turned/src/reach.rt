@@ -26,7 +26,8 @@ pub fn can_enter(robots: &[u8], zone: &[u8], j: usize, behind: u8) -> bool
     if place_of(robots, zone, Robot(behind)) < zone.len() {
         return true;
     }
-    if behind == 255 {
+    let alone = behind == 255;
+    if alone {
         return is_vacant(robots, zone);
     }
     false

@@ -1,5 +1,7 @@
 use Prim.Native.Nat.{◌*◌}
-use mathlib.Core.Path.{ap, ap₂, sym, ◌∙◌}
+use borrow.Author.Rules.{rules}
+use mathlib.Core.Bool.{true}
+use mathlib.Core.Path.{◌≡◌, ap, ap₂, sym, ◌∙◌}
 use mathlib.Core.List.{List}
 use lib.ListN.{length}
 use Rattle.spec.specs.Arrangement.{Move}
@@ -14,14 +16,15 @@ use native.Mathlib.Omega.{arith}
 use Rattle.spec.specs.Clique.{clique_to}
 use Rattle.clique.proofs.entering.fill_in.Goals as goal
 
-pub returns-then-there : goal.returns-then-there
-returns-then-there c =
+pub returns : goal.returns
+returns c =
     let p = c.args in
     let z = p.zone.now in
     let s = on_vertices p.robots.now in
     let f = c.cells_of.ensures ∙ overlaid_all (arrangement_of s z) p.cells.now (arrangement_length s z ∙ sym c.requires.zone_len_bound.1) in
     let h = c.goal_cells.ensures ∙ named_cells p.list.now p.j c.requires.zone_len_bound.4 in
-    filled_still (length z * 2) _ _ _ _ z (world_in p.robots.now p.vertices.now p.count p.out.now) _ f h c.if-there.true c.same_cells-there.ensures
+    let q : c.same_cells-there.result ≡ true = search rules in
+    filled_still (length z * 2) _ _ _ _ z (world_in p.robots.now p.vertices.now p.count p.out.now) _ f h q c.same_cells-there.ensures
 
 pub go_toward-requires : goal.go_toward-requires
 go_toward-requires c =
@@ -33,8 +36,8 @@ go_toward-requires c =
     let m = ap length c.goal_cells.ensures ∙ cells_named p.list.now p.j in
     (omega (arith, l, c.requires.zone_len_bound.0), m ∙ c.requires.zone_len_bound.3 ∙ sym l, distinct_of f c.requires.distinct)
 
-pub returns : goal.returns
-returns c =
+pub returns-then-moves : goal.returns-then-moves
+returns-then-moves c =
     let p = c.args in
     let z = p.zone.now in
     let s = on_vertices p.robots.now in

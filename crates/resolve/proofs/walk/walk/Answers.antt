@@ -17,12 +17,12 @@ loop-i-init c =
     let a = c.args in
     (refl, search rules, λ x. walk_start x.map x.given.accepted x.k x.given.few (take x.len (payload a.file.now)) a.count (world_in a.robots.now a.vertices.now 0 a.out.now) (omega (arith, held_length a.file.now x.len x.most, x.two)) x.consistent, refl, refl, c.payload_ahead-four.ensures.0)
 
-pub returns-then-made-gt21503 : goal.returns-then-made-gt21503
-returns-then-made-gt21503 c =
+pub returns-then-over : goal.returns-then-over
+returns-then-over c =
     λ x.
     let a = c.args in
     let l = c.loop-i in
-    walked_part _ _ _ _ _ _ _ refl (walk_over x.map x.given.accepted x.k x.given.few (take x.len (payload a.file.now)) a.count (world_in a.robots.now a.vertices.now 0 a.out.now) l.i l.o (world_in l.robots l.vertices l.made l.out) (l.invariant.2 x) c.if-made-gt21503.true)
+    walked_part _ _ _ _ _ _ _ refl (walk_over x.map x.given.accepted x.k x.given.few (take x.len (payload a.file.now)) a.count (world_in a.robots.now a.vertices.now 0 a.out.now) l.i l.o (world_in l.robots l.vertices l.made l.out) (l.invariant.2 x) (search rules))
 
 pub list_length_at-e-requires : goal.list_length_at-e-requires
 list_length_at-e-requires c =

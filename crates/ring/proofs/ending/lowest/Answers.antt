@@ -12,15 +12,15 @@ use Rattle.ring.proofs.ending.lowest.Goals as goal
 pub loop-k-init : goal.loop-k-init
 loop-k-init c = (search rules, search rules, lowest_none (on_vertices c.args.robots.now) c.args.zone.now (length c.args.zone.now) 255 (search rules) refl)
 
-pub loop-k-preserved-then-x-best : goal.loop-k-preserved-then-x-best
-loop-k-preserved-then-x-best c =
+pub loop-k-preserved-then-lower : goal.loop-k-preserved-then-lower
+loop-k-preserved-then-lower c =
     let a = c.args in
     let o = c.loop-k in
     let k = o.k - 1 in
     let n : o.k ≡ k + 1 = omega arith in (
       omega arith,
       omega arith,
-      lowest_lower (on_vertices a.robots.now) a.zone.now k c.robot_at-x.result.0 o.best (omega arith) c.robot_at-x.ensures c.if-x-best.true o.invariant.1
+      lowest_lower (on_vertices a.robots.now) a.zone.now k c.robot_at-x.result.0 o.best (omega arith) c.robot_at-x.ensures (search rules) o.invariant.1
           (o.invariant.2 ∙ ap (λ (i : ℕ). lowest_cell (order (drop i (arrangement_of (on_vertices a.robots.now) a.zone.now)))) n),
     )
 
@@ -32,7 +32,7 @@ loop-k-preserved c =
     let n : o.k ≡ k + 1 = omega arith in (
       omega arith,
       o.invariant.1,
-      lowest_kept (on_vertices a.robots.now) a.zone.now k c.robot_at-x.result.0 o.best (omega arith) c.robot_at-x.ensures (omega (arith, c.if-x-best.false)) (search rules)
+      lowest_kept (on_vertices a.robots.now) a.zone.now k c.robot_at-x.result.0 o.best (omega arith) c.robot_at-x.ensures (search rules) (search rules)
           (o.invariant.2 ∙ ap (λ (i : ℕ). lowest_cell (order (drop i (arrangement_of (on_vertices a.robots.now) a.zone.now)))) n),
     )
 

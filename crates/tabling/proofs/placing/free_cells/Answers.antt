@@ -15,13 +15,13 @@ overflow_mul-w c = omega (arith, free_half c.loop-k.k c.args.cells.now c.loop-k-
 pub overflow_add-w : goal.overflow_add-w
 overflow_add-w c = omega (arith, free_half c.loop-k.k c.args.cells.now c.loop-k-test.true)
 
-pub loop-k-preserved-then-x-eq0 : goal.loop-k-preserved-then-x-eq0
-loop-k-preserved-then-x-eq0 c = let o = c.loop-k in
-    (omega arith, omega arith, free_empty c.args.cells.now o.k o.w c.loop-k-test.true o.invariant.0 o.invariant.1 o.invariant.2 c.if-x-eq0.true)
+pub loop-k-preserved-then-empty : goal.loop-k-preserved-then-empty
+loop-k-preserved-then-empty c = let o = c.loop-k in
+    (omega arith, omega arith, free_empty c.args.cells.now o.k o.w c.loop-k-test.true o.invariant.0 o.invariant.1 o.invariant.2 (search rules))
 
 pub loop-k-preserved : goal.loop-k-preserved
 loop-k-preserved c = let o = c.loop-k in
-    (omega arith, omega arith, free_taken c.args.cells.now o.k o.w c.loop-k-test.true o.invariant.0 o.invariant.1 o.invariant.2 c.if-x-eq0.false)
+    (omega arith, omega arith, free_taken c.args.cells.now o.k o.w c.loop-k-test.true o.invariant.0 o.invariant.1 o.invariant.2 (search rules))
 
 pub returns : goal.returns
 returns c = let o = c.loop-k in

@@ -1,3 +1,4 @@
+use borrow.Author.Rules.{rules}
 use native.Mathlib.Omega.{arith}
 use mathlib.Core.Path.{◌∙◌}
 use Rattle.spec.specs.State.{arrangement_of}
@@ -11,13 +12,13 @@ returns-then-place_of-zone c =
     let a = c.args in
     enter_inside (arrangement_of (on_vertices a.robots.now) a.zone.now) a.j a.behind (omega (arith, c.place_of.ensures, c.if-place_of-zone.true, arrangement_length (on_vertices a.robots.now) a.zone.now))
 
-pub returns-then-behind-eq255 : goal.returns-then-behind-eq255
-returns-then-behind-eq255 c =
+pub returns-then-alone : goal.returns-then-alone
+returns-then-alone c =
     let a = c.args in
     c.is_vacant.ensures
-    ∙ enter_vacant (arrangement_of (on_vertices a.robots.now) a.zone.now) a.j a.behind (omega (arith, c.place_of.ensures, c.if-place_of-zone.false, arrangement_length (on_vertices a.robots.now) a.zone.now)) c.if-behind-eq255.true
+    ∙ enter_vacant (arrangement_of (on_vertices a.robots.now) a.zone.now) a.j a.behind (omega (arith, c.place_of.ensures, c.if-place_of-zone.false, arrangement_length (on_vertices a.robots.now) a.zone.now)) (search rules)
 
 pub returns : goal.returns
 returns c =
     let a = c.args in
-    enter_outside (arrangement_of (on_vertices a.robots.now) a.zone.now) a.j a.behind (omega (arith, c.place_of.ensures, c.if-place_of-zone.false, arrangement_length (on_vertices a.robots.now) a.zone.now)) c.if-behind-eq255.false
+    enter_outside (arrangement_of (on_vertices a.robots.now) a.zone.now) a.j a.behind (omega (arith, c.place_of.ensures, c.if-place_of-zone.false, arrangement_length (on_vertices a.robots.now) a.zone.now)) (search rules)
