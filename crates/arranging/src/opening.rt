@@ -2,7 +2,6 @@
 ghost use Rattle.std.specs.Prelude.{◌≡◌, ℕ, ◌+◌, ◌<◌, ◌≤◌, true, false, length, drop, slice_index};
 ghost use Rattle.spec.specs.Clique.{open_target};
 
-use motion::least;
 
 // Does nobody stand on a place, and is it somebody's target? x is what stands there, y what is to stand there.
 fn is_open(x: u8, y: u8) -> bool
@@ -58,7 +57,7 @@ fn pass_sixteens(cells: &[u8], goal: &[u8], n: usize, from: usize) -> usize
 fn seek_open(cells: &[u8], goal: &[u8], from: usize) -> usize
     ensures { result ≡ from + open_target (drop from cells.now) (drop from goal.now) }
 {
-    let n = least(cells.len(), goal.len());
+    let n = cells.len().min(goal.len());
     let mut i = from;
     while i < n {
         if is_open(cells[i], goal[i]) {
@@ -74,7 +73,7 @@ fn seek_open(cells: &[u8], goal: &[u8], from: usize) -> usize
 pub fn open_target(cells: &[u8], goal: &[u8], from: usize) -> usize
     ensures { result ≡ from + open_target (drop from cells.now) (drop from goal.now) }
 {
-    let n = least(cells.len(), goal.len());
+    let n = cells.len().min(goal.len());
     if n <= from {
         return from;
     }

@@ -3,13 +3,13 @@ ghost use Rattle.std.specs.Prelude.{◌≡◌, ◌≤◌, length};
 ghost use Rattle.spec.specs.Clique.{lowest_off, clique_to};
 ghost use Rattle.spec.specs.State.{across, cell_of};
 ghost use Rattle.spec.specs.Terms.{Distinct};
-ghost use Rattle.motion.specs.World.{world_in, made_all};
+ghost use Rattle.motion.specs.World.{world, made_all};
 ghost use Rattle.arranging.specs.Toward.{off_next};
 ghost use Rattle.tabling.specs.Table.{Tabled};
 
 use crate::opening::open_target;
 use cells::{cell_at, cell_of, go};
-use motion::least;
+use motion::State;
 use numbering::Robot;
 use tabling::placing::first_empty;
 use tabling::table::{as_byte, table_cells, table_move};
@@ -40,7 +40,7 @@ fn lowest_off(cells: &[u8], goal: &[u8]) -> u8
     ensures { result ≡ lowest_off cells.now goal.now }
 {
     let mut best: u8 = 255;
-    let mut k = least(cells.len(), goal.len());
+    let mut k = cells.len().min(goal.len());
     while 0 < k {
         k -= 1;
         best = lower_off(cells[k], goal[k], best);
@@ -52,8 +52,7 @@ fn lowest_off(cells: &[u8], goal: &[u8]) -> u8
 // otherwise the lowest-numbered such cart moves to the earliest listed empty point". A target opens only where a robot left, so the next one is looked for from there,
 // and past the place that was taken. The robots' places are read from a lent table.
 fn go_tabled(
-    robots: &mut [u8],
-    vertices: &mut [u8],
+    state: &mut State,
     count: usize,
     zone: &[u8],
     cells: &mut [u8],
@@ -63,7 +62,7 @@ fn go_tabled(
     out: &mut [u8],
 ) -> usize
     requires { (length cells.old ≤ 128) × (length goal.now ≡ length cells.old) × Tabled table.old cells.old }
-    ensures { world_in robots.new vertices.new result out.new ≡ made_all (world_in robots.old vertices.old count out.old) (across zone.now (clique_to n cells.old goal.now)) }
+    ensures { world state.new result out.new ≡ made_all (world state.old count out.old) (across zone.now (clique_to n cells.old goal.now)) }
 {
     let mut count = count;
     let mut left = n;
@@ -74,8 +73,8 @@ fn go_tabled(
         if q < cells.len() {
             let y = cell_at(goal, q);
             let i = table_move(table, y, q);
-            from = least(i, q + 1);
-            count = go(robots, vertices, count, zone, cells, y, i, q, out);
+            from = i.min(q + 1);
+            count = go(state, count, zone, cells, y, i, q, out);
         } else {
             let x = lowest_off(cells, goal);
             if x == 0 {
@@ -84,7 +83,7 @@ fn go_tabled(
             let f = first_empty(cells);
             let i = table_move(table, x, f);
             from = i;
-            count = go(robots, vertices, count, zone, cells, x, i, f, out);
+            count = go(state, count, zone, cells, x, i, f, out);
         }
     }
     count
@@ -92,8 +91,7 @@ fn go_tabled(
 
 // At most n moves towards an arrangement of as many places, where no robot stands twice.
 pub fn go_toward(
-    robots: &mut [u8],
-    vertices: &mut [u8],
+    state: &mut State,
     count: usize,
     zone: &[u8],
     cells: &mut [u8],
@@ -102,12 +100,12 @@ pub fn go_toward(
     out: &mut [u8],
 ) -> usize
     requires { (length cells.old ≤ 128) × (length goal.now ≡ length cells.old) × Distinct cells.old }
-    ensures { world_in robots.new vertices.new result out.new ≡ made_all (world_in robots.old vertices.old count out.old) (across zone.now (clique_to n cells.old goal.now)) }
+    ensures { world state.new result out.new ≡ made_all (world state.old count out.old) (across zone.now (clique_to n cells.old goal.now)) }
 {
     let size = as_byte(cells.len());
     let mut table = [size; 256];
     table_cells(cells, &mut table);
     go_tabled(
-        robots, vertices, count, zone, cells, goal, n, &mut table, out,
+        state, count, zone, cells, goal, n, &mut table, out,
     )
 }

@@ -2,11 +2,10 @@
 ghost use Rattle.std.specs.Prelude.{◌≡◌, ◌-◌, ◌<◌, get_or};
 ghost use Rattle.spec.specs.Arrangement.{mv, seek, apply};
 ghost use Rattle.spec.specs.State.{arrangement_of, across_move, cell_of};
-ghost use Rattle.motion.specs.Tables.{on_vertices};
-ghost use Rattle.motion.specs.World.{world_in, made};
+ghost use Rattle.motion.specs.World.{world, made};
 ghost use Rattle.cells.specs.Cells.{overlaid};
 
-use motion::{least, make, put_cell, robot_on};
+use motion::{State, put_cell};
 use numbering::{Robot, Vertex};
 
 // The vertex at a place of a zone.
@@ -61,13 +60,13 @@ pub fn cell_of(r: Robot) -> u8
 }
 
 // The arrangement of a zone, as far as the cells go.
-pub fn cells_of(robots: &[u8], zone: &[u8], cells: &mut [u8])
-    ensures { cells.new ≡ overlaid (arrangement_of (on_vertices robots.now) zone.now) cells.old }
+pub fn cells_of(state: &State, zone: &[u8], cells: &mut [u8])
+    ensures { cells.new ≡ overlaid (arrangement_of state.now zone.now) cells.old }
 {
-    let n = least(zone.len(), cells.len());
+    let n = zone.len().min(cells.len());
     let mut k: usize = 0;
     while k < n {
-        let r = robot_on(robots, Vertex(zone[k]));
+        let r = state.robot_on(Vertex(zone[k]));
         cells[k] = cell_of(r);
         k += 1;
     }
@@ -84,8 +83,7 @@ fn robot_of(x: u8) -> Robot
 
 // The robot of cell x goes from place i of a zone to place j, in the lent tables and in the lent arrangement.
 pub fn go(
-    robots: &mut [u8],
-    vertices: &mut [u8],
+    state: &mut State,
     count: usize,
     zone: &[u8],
     cells: &mut [u8],
@@ -94,7 +92,7 @@ pub fn go(
     j: usize,
     out: &mut [u8],
 ) -> usize
-    ensures out_after { world_in robots.new vertices.new result out.new ≡ made (world_in robots.old vertices.old count out.old) (across_move zone.now (mv (x - 1) i j)) }
+    ensures out_after { world state.new result out.new ≡ made (world state.old count out.old) (across_move zone.now (mv (x - 1) i j)) }
     ensures cells_after { cells.new ≡ apply cells.old (mv (x - 1) i j) }
 {
     let r = robot_of(x);
@@ -102,5 +100,5 @@ pub fn go(
     let w = vertex_at(zone, j);
     put_cell(cells, i, 0);
     put_cell(cells, j, r.0 + 1);
-    make(robots, vertices, count, r, v, w, out)
+    state.make(count, r, v, w, out)
 }

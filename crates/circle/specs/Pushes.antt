@@ -6,7 +6,6 @@ use mathlib.Core.List.{List, [], ◌∷◌, ◌++◌, map, map-append}
 use Rattle.spec.specs.Arrangement.{Arrangement, Move, mv, apply_all, seek}
 use Rattle.spec.specs.Ring.{wrap, frame, in_ring, shove, push, pushes, ahead, push_to, ring_leave}
 use Rattle.spec.specs.State.{State, robot_on, moved, moved_all, arrangement_of, across_move, across}
-use Rattle.motion.specs.Tables.{on_vertices}
 use Rattle.motion.specs.World.{World, made, made_all, made_none, robots_length}
 use Rattle.motion.specs.Across.{made_both, made_last, across_nil, arrangement_length}
 use Rattle.motion.specs.Coupling.{Listed, Inside, none, more, inside_append, coupled, arranged}
@@ -61,7 +60,7 @@ pub unmoved_all : (s : State) (vs : List ℕ) (p k : ℕ) → Unmoved s s vs p k
 unmoved_all s vs p k = record { stays = λ i z l. refl }
 
 -- a move changes two vertices only
-move_stays : (w u : World) (r f t v : ℕ) → u ≡ made w (mv r f t) → v ≢ f → v ≢ t → robot_on (on_vertices u.state.robots) v ≡ robot_on (on_vertices w.state.robots) v
+move_stays : (w u : World) (r f t v : ℕ) → u ≡ made w (mv r f t) → v ≢ f → v ≢ t → robot_on u.state v ≡ robot_on w.state v
 unfolding made moved
 move_stays w u r f t v e a b =
     ap (λ (x : World). get_or x.state.robots v 255) e
@@ -71,7 +70,7 @@ move_stays w u r f t v e a b =
 -- the robot k places on went one place on: those behind it stand where they stood
 pub unmoved_behind : (s : State) (w u : World) (vs : List ℕ) (n p k r f t : ℕ) → Listed n vs → p < length vs → k < length vs
     → f ≡ get_or vs (wrap (length vs) (p + k)) 0 → t ≡ get_or vs (wrap (length vs) (p + (k + 1))) 0
-    → u ≡ made w (mv r f t) → Unmoved s (on_vertices w.state.robots) vs p (k + 1) → Unmoved s (on_vertices u.state.robots) vs p k
+    → u ≡ made w (mv r f t) → Unmoved s w.state vs p (k + 1) → Unmoved s u.state vs p k
 unmoved_behind s w u vs n p k r f t L h l ef et e U =
     record {
       stays =
@@ -135,9 +134,9 @@ inside_pushes (suc n) s vs p L h =
 
 -- one push, then the rest
 pub pushes_step : (w u : World) (vs : List ℕ) (p q n : ℕ) → Listed (length w.state.robots) vs → p < length vs → 0 < n
-    → q ≡ next_place (length vs) p → u ≡ made_all w (across vs (push (arrangement_of (on_vertices w.state.robots) vs) p))
-    → made_all u (across vs (pushes (n - 1) (arrangement_of (on_vertices u.state.robots) vs) q))
-    ≡ made_all w (across vs (pushes n (arrangement_of (on_vertices w.state.robots) vs) p))
+    → q ≡ next_place (length vs) p → u ≡ made_all w (across vs (push (arrangement_of w.state vs) p))
+    → made_all u (across vs (pushes (n - 1) (arrangement_of u.state vs) q))
+    ≡ made_all w (across vs (pushes n (arrangement_of w.state vs) p))
 unfolding arrangement_of
 pushes_step w u vs p q n M h z d k =
     made_both w u vs (push (arrangement_of w.state vs) p) (pushes (n - 1) (arrangement_of u.state vs) q) k

@@ -3,32 +3,30 @@ ghost use Rattle.std.specs.Prelude.{◌≡◌, suc, ◌<◌, length};
 ghost use Rattle.spec.specs.Arrangement.{seek};
 ghost use Rattle.spec.specs.Ring.{pushes, push_to};
 ghost use Rattle.spec.specs.State.{across, arrangement_of};
-ghost use Rattle.motion.specs.Tables.{on_vertices};
-ghost use Rattle.motion.specs.World.{world_in, made_all};
+ghost use Rattle.motion.specs.World.{world, made_all};
 ghost use Rattle.motion.specs.Coupling.{Listed};
 ghost use Rattle.circle.specs.Pushes.{pushed};
 
 use crate::places::{beside, distance, next};
 use cells::{place_of, vertex_at};
-use motion::{make, robot_on};
+use motion::State;
 use numbering::Robot;
 
 // "in the run of taken points forward from it, the foremost cart of the run moves first, each one place, the pushed cart
 // last": the robot on place p is pushed. It is read before the run moves: in a full ring the foremost one takes its place.
 pub fn push(
-    robots: &mut [u8],
-    vertices: &mut [u8],
+    state: &mut State,
     count: usize,
     zone: &[u8],
     p: usize,
     out: &mut [u8],
 ) -> usize
     requires p_in_bounds { p < length zone.now }
-    requires listed { Listed (length robots.old) zone.now }
-    ensures { world_in robots.new vertices.new result out.new ≡ made_all (world_in robots.old vertices.old count out.old) (across zone.now (pushed (arrangement_of (on_vertices robots.old) zone.now) p)) }
+    requires listed { Listed (length state.old.robots) zone.now }
+    ensures { world state.new result out.new ≡ made_all (world state.old count out.old) (across zone.now (pushed (arrangement_of state.old zone.now) p)) }
 {
     let m = zone.len();
-    let first = robot_on(robots, vertex_at(zone, p));
+    let first = state.robot_on(vertex_at(zone, p));
     let mut at = p;
     let mut k: usize = 0;
     let end = loop {
@@ -36,7 +34,7 @@ pub fn push(
             break at;
         }
         let v = vertex_at(zone, at);
-        let r = robot_on(robots, v);
+        let r = state.robot_on(v);
         if r.0 == 255 {
             break at;
         }
@@ -49,13 +47,13 @@ pub fn push(
         let from = beside(m, to, false);
         let v = vertex_at(zone, from);
         let w = vertex_at(zone, to);
-        let mut r = robot_on(robots, v);
+        let mut r = state.robot_on(v);
         k -= 1;
         let last = k == 0;
         if last {
             r = first;
         }
-        count = make(robots, vertices, count, r, v, w, out);
+        count = state.make(count, r, v, w, out);
         to = from;
     }
     count
@@ -63,8 +61,7 @@ pub fn push(
 
 // The robot on place p is pushed n times.
 pub fn push_times(
-    robots: &mut [u8],
-    vertices: &mut [u8],
+    state: &mut State,
     count: usize,
     zone: &[u8],
     p: usize,
@@ -72,14 +69,14 @@ pub fn push_times(
     out: &mut [u8],
 ) -> usize
     requires p_in_bounds { p < length zone.now }
-    requires listed { Listed (length robots.old) zone.now }
-    ensures { world_in robots.new vertices.new result out.new ≡ made_all (world_in robots.old vertices.old count out.old) (across zone.now (pushes n (arrangement_of (on_vertices robots.old) zone.now) p)) }
+    requires listed { Listed (length state.old.robots) zone.now }
+    ensures { world state.new result out.new ≡ made_all (world state.old count out.old) (across zone.now (pushes n (arrangement_of state.old zone.now) p)) }
 {
     let mut count = count;
     let mut at = p;
     let mut left = n;
     while 0 < left {
-        count = push(robots, vertices, count, zone, at, out);
+        count = push(state, count, zone, at, out);
         at = next(zone.len(), at);
         left -= 1;
     }
@@ -88,8 +85,7 @@ pub fn push_times(
 
 // "push until at from": robot r, which stands in the ring, is pushed to place j.
 pub fn push_to(
-    robots: &mut [u8],
-    vertices: &mut [u8],
+    state: &mut State,
     count: usize,
     zone: &[u8],
     r: Robot,
@@ -97,11 +93,11 @@ pub fn push_to(
     out: &mut [u8],
 ) -> usize
     requires j_in_bounds { j < length zone.now }
-    requires listed { Listed (length robots.old) zone.now }
-    requires zone_in_bounds { seek (suc r.0) (arrangement_of (on_vertices robots.old) zone.now) < length zone.now }
-    ensures { world_in robots.new vertices.new result out.new ≡ made_all (world_in robots.old vertices.old count out.old) (across zone.now (push_to (arrangement_of (on_vertices robots.old) zone.now) r.0 j)) }
+    requires listed { Listed (length state.old.robots) zone.now }
+    requires zone_in_bounds { seek (suc r.0) (arrangement_of state.old zone.now) < length zone.now }
+    ensures { world state.new result out.new ≡ made_all (world state.old count out.old) (across zone.now (push_to (arrangement_of state.old zone.now) r.0 j)) }
 {
-    let p = place_of(robots, zone, r);
+    let p = place_of(state, zone, r);
     let n = distance(zone.len(), p, j);
-    push_times(robots, vertices, count, zone, p, n, out)
+    push_times(state, count, zone, p, n, out)
 }

@@ -3,21 +3,21 @@ ghost use Rattle.std.specs.Prelude.{◌≡◌, ◌≤◌, length};
 ghost use Rattle.spec.specs.Clique.{clique_can_end, clique_end};
 ghost use Rattle.spec.specs.State.{arrangement_of, across};
 ghost use Rattle.spec.specs.Terms.{Distinct};
-ghost use Rattle.motion.specs.Tables.{on_vertices};
-ghost use Rattle.motion.specs.World.{world_in, made_all};
+ghost use Rattle.motion.specs.World.{world, made_all};
 
+use motion::State;
 use arranging::toward::go_toward;
 use cells::{cells_of, is_full};
 use comparing::{same_cells, same_robots};
 
 // Are the goals in the configuration of the clique? The two arrangements are worked out in lent cells.
-fn can_end_in(robots: &[u8], zone: &[u8], goals: &[u8], cells: &mut [u8], goal: &mut [u8]) -> bool
+fn can_end_in(state: &State, zone: &[u8], goals: &State, cells: &mut [u8], goal: &mut [u8]) -> bool
     requires { (length cells.old ≡ length zone.now) × (length goal.old ≡ length zone.now) }
-    ensures { result ≡ clique_can_end (arrangement_of (on_vertices robots.now) zone.now) (arrangement_of (on_vertices goals.now) zone.now) }
+    ensures { result ≡ clique_can_end (arrangement_of state.now zone.now) (arrangement_of goals.now zone.now) }
 {
-    cells_of(robots, zone, cells);
+    cells_of(state, zone, cells);
     cells_of(goals, zone, goal);
-    let packed = is_full(robots, zone);
+    let packed = is_full(state, zone);
     if packed {
         return same_cells(cells, goal);
     }
@@ -25,55 +25,52 @@ fn can_end_in(robots: &[u8], zone: &[u8], goals: &[u8], cells: &mut [u8], goal: 
 }
 
 // Is the goal arrangement in the configuration: in a full clique the arrangement itself, in any other one of the same robots?
-pub fn can_end(robots: &[u8], zone: &[u8], goals: &[u8]) -> bool
+pub fn can_end(state: &State, zone: &[u8], goals: &State) -> bool
     requires { length zone.now ≤ 128 }
-    ensures { result ≡ clique_can_end (arrangement_of (on_vertices robots.now) zone.now) (arrangement_of (on_vertices goals.now) zone.now) }
+    ensures { result ≡ clique_can_end (arrangement_of state.now zone.now) (arrangement_of goals.now zone.now) }
 {
     let n = zone.len();
     let mut cells = [0u8; 128];
     let mut goal = [0u8; 128];
-    can_end_in(robots, zone, goals, &mut cells[..n], &mut goal[..n])
+    can_end_in(state, zone, goals, &mut cells[..n], &mut goal[..n])
 }
 
 fn end_in(
-    robots: &mut [u8],
-    vertices: &mut [u8],
+    state: &mut State,
     count: usize,
     zone: &[u8],
-    goals: &[u8],
+    goals: &State,
     cells: &mut [u8],
     goal: &mut [u8],
     out: &mut [u8],
 ) -> usize
     requires zone_len_bound { (length zone.now ≤ 128) × (length cells.old ≡ length zone.now) × (length goal.old ≡ length zone.now) }
-    requires distinct { Distinct (arrangement_of (on_vertices robots.old) zone.now) }
-    ensures { world_in robots.new vertices.new result out.new ≡ made_all (world_in robots.old vertices.old count out.old) (across zone.now (clique_end (arrangement_of (on_vertices robots.old) zone.now) (arrangement_of (on_vertices goals.now) zone.now))) }
+    requires distinct { Distinct (arrangement_of state.old zone.now) }
+    ensures { world state.new result out.new ≡ made_all (world state.old count out.old) (across zone.now (clique_end (arrangement_of state.old zone.now) (arrangement_of goals.now zone.now))) }
 {
-    cells_of(robots, zone, cells);
+    cells_of(state, zone, cells);
     cells_of(goals, zone, goal);
     let n = zone.len() * 2;
-    go_toward(robots, vertices, count, zone, cells, goal, n, out)
+    go_toward(state, count, zone, cells, goal, n, out)
 }
 
 // "Clique to a given arrangement", the goals', where no robot stands twice.
 pub fn bring_to_goals(
-    robots: &mut [u8],
-    vertices: &mut [u8],
+    state: &mut State,
     count: usize,
     zone: &[u8],
-    goals: &[u8],
+    goals: &State,
     out: &mut [u8],
 ) -> usize
     requires zone_len_bound { length zone.now ≤ 128 }
-    requires distinct { Distinct (arrangement_of (on_vertices robots.old) zone.now) }
-    ensures { world_in robots.new vertices.new result out.new ≡ made_all (world_in robots.old vertices.old count out.old) (across zone.now (clique_end (arrangement_of (on_vertices robots.old) zone.now) (arrangement_of (on_vertices goals.now) zone.now))) }
+    requires distinct { Distinct (arrangement_of state.old zone.now) }
+    ensures { world state.new result out.new ≡ made_all (world state.old count out.old) (across zone.now (clique_end (arrangement_of state.old zone.now) (arrangement_of goals.now zone.now))) }
 {
     let n = zone.len();
     let mut cells = [0u8; 128];
     let mut goal = [0u8; 128];
     end_in(
-        robots,
-        vertices,
+        state,
         count,
         zone,
         goals,

@@ -5,15 +5,14 @@ ghost use Rattle.spec.specs.Clique.{named, same_robots, clique_to, clique_can_en
 ghost use Rattle.spec.specs.State.{arrangement_of, across, cell_of};
 ghost use Rattle.spec.specs.Terms.{Distinct};
 ghost use Rattle.theory.specs.Zones.Crossing.{extra_of};
-ghost use Rattle.motion.specs.Tables.{on_vertices};
-ghost use Rattle.motion.specs.World.{world_in, made_all};
+ghost use Rattle.motion.specs.World.{world, made_all};
 ghost use Rattle.cells.specs.Cells.{overlaid};
 ghost use Rattle.clique.specs.Entering.{Numbered};
 
 use arranging::toward::go_toward;
 use cells::{cell_of, cells_of};
 use comparing::{same_cells, same_robots};
-use motion::{least, put_cell};
+use motion::{State, put_cell};
 use numbering::Robot;
 use vacating::last_free;
 use vacating::leaving::make_room;
@@ -48,7 +47,7 @@ fn names_at(list: &[u8], j: usize, r: Robot) -> bool
 fn list_cells(list: &[u8], cells: &mut [u8])
     ensures { cells.new ≡ overlaid (map cell_of list.now) cells.old }
 {
-    let n = least(list.len(), cells.len());
+    let n = list.len().min(cells.len());
     let mut k: usize = 0;
     while k < n {
         cells[k] = cell_of(Robot(list[k]));
@@ -67,7 +66,7 @@ fn goal_cells(list: &[u8], j: usize, goal: &mut [u8])
 
 // Does a follow list name the robots inside beside the one at place j? The two arrangements are worked out in lent cells.
 fn names_inside_in(
-    robots: &[u8],
+    state: &State,
     zone: &[u8],
     j: usize,
     list: &[u8],
@@ -75,11 +74,11 @@ fn names_inside_in(
     goal: &mut [u8],
 ) -> bool
     requires { (length cells.old ≡ length zone.now) × (length goal.old ≡ length list.now) }
-    ensures { result ≡ same_robots (arrangement_of (on_vertices robots.now) zone.now) (set (named list.now) j 0) }
+    ensures { result ≡ same_robots (arrangement_of state.now zone.now) (set (named list.now) j 0) }
 {
     let named = names_robots(list, j);
     if named {
-        cells_of(robots, zone, cells);
+        cells_of(state, zone, cells);
         goal_cells(list, j, goal);
         return same_robots(cells, goal);
     }
@@ -87,31 +86,31 @@ fn names_inside_in(
 }
 
 // Does a follow list name the robots inside beside the one at place j?
-fn names_inside(robots: &[u8], zone: &[u8], j: usize, list: &[u8]) -> bool
+fn names_inside(state: &State, zone: &[u8], j: usize, list: &[u8]) -> bool
     requires { (length zone.now ≤ 128) × (length list.now ≤ 128) }
-    ensures { result ≡ same_robots (arrangement_of (on_vertices robots.now) zone.now) (set (named list.now) j 0) }
+    ensures { result ≡ same_robots (arrangement_of state.now zone.now) (set (named list.now) j 0) }
 {
     let n = zone.len();
     let m = list.len();
     let mut cells = [0u8; 128];
     let mut goal = [0u8; 128];
-    names_inside_in(robots, zone, j, list, &mut cells[..n], &mut goal[..m])
+    names_inside_in(state, zone, j, list, &mut cells[..n], &mut goal[..m])
 }
 
 // Can robot r enter at place j: "in a clique behind is 255, and if filled, the follow list names the new arrangement, the entering cart at to".
-pub fn can_enter(robots: &[u8], zone: &[u8], r: Robot, j: usize, behind: u8, list: &[u8]) -> bool
+pub fn can_enter(state: &State, zone: &[u8], r: Robot, j: usize, behind: u8, list: &[u8]) -> bool
     requires { (length zone.now ≤ 128) × (length list.now ≤ 128) }
-    ensures { result ≡ clique_can_enter (arrangement_of (on_vertices robots.now) zone.now) r.0 j behind list.now }
+    ensures { result ≡ clique_can_enter (arrangement_of state.now zone.now) r.0 j behind list.now }
 {
     let behind_named = behind != 255;
     if behind_named {
         return false;
     }
-    let last = last_free(robots, zone);
+    let last = last_free(state, zone);
     if last {
         let here = names_at(list, j, r);
         if here {
-            return names_inside(robots, zone, j, list);
+            return names_inside(state, zone, j, list);
         }
         return false;
     }
@@ -119,8 +118,7 @@ pub fn can_enter(robots: &[u8], zone: &[u8], r: Robot, j: usize, behind: u8, lis
 }
 
 fn fill_in(
-    robots: &mut [u8],
-    vertices: &mut [u8],
+    state: &mut State,
     count: usize,
     zone: &[u8],
     j: usize,
@@ -130,24 +128,23 @@ fn fill_in(
     out: &mut [u8],
 ) -> usize
     requires zone_len_bound { (length zone.now ≤ 128) × (length cells.old ≡ length zone.now) × (length goal.old ≡ length list.now) × (length list.now ≡ length zone.now) × Numbered list.now j }
-    requires distinct { Distinct (arrangement_of (on_vertices robots.old) zone.now) }
-    ensures { world_in robots.new vertices.new result out.new ≡ made_all (world_in robots.old vertices.old count out.old) (across zone.now (clique_to (length zone.now * 2) (arrangement_of (on_vertices robots.old) zone.now) (set (named list.now) j 0))) }
+    requires distinct { Distinct (arrangement_of state.old zone.now) }
+    ensures { world state.new result out.new ≡ made_all (world state.old count out.old) (across zone.now (clique_to (length zone.now * 2) (arrangement_of state.old zone.now) (set (named list.now) j 0))) }
 {
-    cells_of(robots, zone, cells);
+    cells_of(state, zone, cells);
     goal_cells(list, j, goal);
     let there = same_cells(cells, goal);
     let moves = !there;
     if moves {
         let n = zone.len() * 2;
-        return go_toward(robots, vertices, count, zone, cells, goal, n, out);
+        return go_toward(state, count, zone, cells, goal, n, out);
     }
     count
 }
 
 // The robots inside go to the follow list's arrangement.
 fn fill(
-    robots: &mut [u8],
-    vertices: &mut [u8],
+    state: &mut State,
     count: usize,
     zone: &[u8],
     j: usize,
@@ -155,16 +152,15 @@ fn fill(
     out: &mut [u8],
 ) -> usize
     requires zone_len_bound { (length zone.now ≤ 128) × (length list.now ≡ length zone.now) × Numbered list.now j }
-    requires distinct { Distinct (arrangement_of (on_vertices robots.old) zone.now) }
-    ensures { world_in robots.new vertices.new result out.new ≡ made_all (world_in robots.old vertices.old count out.old) (across zone.now (clique_to (length zone.now * 2) (arrangement_of (on_vertices robots.old) zone.now) (set (named list.now) j 0))) }
+    requires distinct { Distinct (arrangement_of state.old zone.now) }
+    ensures { world state.new result out.new ≡ made_all (world state.old count out.old) (across zone.now (clique_to (length zone.now * 2) (arrangement_of state.old zone.now) (set (named list.now) j 0))) }
 {
     let n = zone.len();
     let m = list.len();
     let mut cells = [0u8; 128];
     let mut goal = [0u8; 128];
     fill_in(
-        robots,
-        vertices,
+        state,
         count,
         zone,
         j,
@@ -178,20 +174,19 @@ fn fill(
 // "Entering without filling: a cart on to goes to the earliest listed empty point. Filling: the carts inside go to the follow list's arrangement".
 // There is a follow list exactly where the clique is filled.
 pub fn enter(
-    robots: &mut [u8],
-    vertices: &mut [u8],
+    state: &mut State,
     count: usize,
     zone: &[u8],
     j: usize,
     list: &[u8],
     out: &mut [u8],
 ) -> usize
-    requires zone_len_bound { (length zone.now ≤ 128) × (length list.now ≡ extra_of 3 (arrangement_of (on_vertices robots.old) zone.now)) × Numbered list.now j }
-    requires distinct { Distinct (arrangement_of (on_vertices robots.old) zone.now) }
-    ensures { world_in robots.new vertices.new result out.new ≡ made_all (world_in robots.old vertices.old count out.old) (across zone.now (clique_enter (arrangement_of (on_vertices robots.old) zone.now) j list.now)) }
+    requires zone_len_bound { (length zone.now ≤ 128) × (length list.now ≡ extra_of 3 (arrangement_of state.old zone.now)) × Numbered list.now j }
+    requires distinct { Distinct (arrangement_of state.old zone.now) }
+    ensures { world state.new result out.new ≡ made_all (world state.old count out.old) (across zone.now (clique_enter (arrangement_of state.old zone.now) j list.now)) }
 {
     if 0 < list.len() {
-        return fill(robots, vertices, count, zone, j, list, out);
+        return fill(state, count, zone, j, list, out);
     }
-    make_room(robots, vertices, count, zone, j, out)
+    make_room(state, count, zone, j, out)
 }

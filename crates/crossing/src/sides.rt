@@ -3,8 +3,7 @@ ghost use Rattle.std.specs.Prelude.{◌≡◌, true, [], ◌+◌, ◌*◌, ◌/�
 ghost use Rattle.spec.specs.State.{arrangement_of, across};
 ghost use Rattle.spec.specs.ZoneKind.{behind_of, can_leave};
 ghost use Rattle.theory.specs.Zones.Crossing.{Proper, extra_of};
-ghost use Rattle.motion.specs.Tables.{tabled, on_vertices};
-ghost use Rattle.motion.specs.World.{world_in, made_all};
+ghost use Rattle.motion.specs.World.{world, made_all};
 ghost use Rattle.motion.specs.Coupling.{Listed};
 ghost use Rattle.clique.specs.Entering.{Numbered};
 ghost use Rattle.zones.specs.Near.{near_place};
@@ -12,6 +11,7 @@ ghost use Rattle.walking.specs.Kinds.{leave_moves, enter_moves};
 ghost use Rattle.walking.specs.Held.{held_part};
 ghost use Rattle.walking.specs.Given.{HasVertex, kind_at, vertices_at};
 
+use motion::State;
 use cells::{robot_at, vertex_at};
 use numbering::{Robot, Vertex};
 use walking::copy_list;
@@ -33,8 +33,7 @@ fn near_place(kind: u8, m: usize, j: usize) -> usize
 
 // The moves that bring robot r, which can leave there, to place j, which is vertex u: one where it stands beside that and nobody on it.
 fn leave_in(
-    robots: &mut [u8],
-    vertices: &mut [u8],
+    state: &mut State,
     count: usize,
     kind: u8,
     zone: &[u8],
@@ -44,28 +43,27 @@ fn leave_in(
     out: &mut [u8],
 ) -> usize
     requires zone_len_bound { (length zone.now ≤ 128) × (j < length zone.now) × (get_or zone.now j 0 ≡ u.0) }
-    requires listed { Listed (length robots.old) zone.now }
-    requires j_value { can_leave kind (arrangement_of (tabled robots.old vertices.old) zone.now) r j ≡ true }
-    requires proper { Proper (arrangement_of (tabled robots.old vertices.old) zone.now) }
-    ensures { world_in robots.new vertices.new result out.new ≡ made_all (world_in robots.old vertices.old count out.old) (across zone.now (leave_moves kind (arrangement_of (tabled robots.old vertices.old) zone.now) r j)) }
+    requires listed { Listed (length state.old.robots) zone.now }
+    requires j_value { can_leave kind (arrangement_of state.old zone.now) r j ≡ true }
+    requires proper { Proper (arrangement_of state.old zone.now) }
+    ensures { world state.new result out.new ≡ made_all (world state.old count out.old) (across zone.now (leave_moves kind (arrangement_of state.old zone.now) r j)) }
 {
-    let there = motion::robot_in(robots, u);
+    let there = state.robot_on(u).0;
     let vacant = there == 255;
     if vacant {
         let i = near_place(kind, zone.len(), j);
-        let x = robot_at(robots, zone, i);
+        let x = robot_at(state, zone, i);
         if x.0 == r {
             let w = vertex_at(zone, i);
-            return motion::make(robots, vertices, count, Robot(r), w, u, out);
+            return state.make(count, Robot(r), w, u, out);
         }
     }
-    zones::leave(kind, robots, vertices, count, zone, Robot(r), j, out)
+    zones::leave(kind, state, count, zone, Robot(r), j, out)
 }
 
 // The moves that bring robot r, which can leave there, to vertex u: none where it stands there already.
 pub fn leave_at<'a>(
-    robots: &mut [u8],
-    vertices: &mut [u8],
+    state: &mut State,
     count: usize,
     kind: &'a [u8; 64],
     first: &'a [u8; 64],
@@ -78,12 +76,12 @@ pub fn leave_at<'a>(
     out: &mut [u8],
 ) -> usize
     requires has_vertex { HasVertex first.now size.now listed.now zone.now place.now u }
-    requires u_value { can_leave (kind_at kind.now zone.now u) (arrangement_of (tabled robots.old vertices.old) (vertices_at first.now size.now listed.now zone.now u)) r (get_or place.now u 0) ≡ true }
-    requires robots_len { length robots.old ≡ 128 }
-    requires proper { Proper (arrangement_of (tabled robots.old vertices.old) (vertices_at first.now size.now listed.now zone.now u)) }
-    ensures { world_in robots.new vertices.new result out.new ≡ made_all (world_in robots.old vertices.old count out.old) (across (vertices_at first.now size.now listed.now zone.now u) (leave_moves (kind_at kind.now zone.now u) (arrangement_of (tabled robots.old vertices.old) (vertices_at first.now size.now listed.now zone.now u)) r (get_or place.now u 0))) }
+    requires u_value { can_leave (kind_at kind.now zone.now u) (arrangement_of state.old (vertices_at first.now size.now listed.now zone.now u)) r (get_or place.now u 0) ≡ true }
+    requires robots_len { length state.old.robots ≡ 128 }
+    requires proper { Proper (arrangement_of state.old (vertices_at first.now size.now listed.now zone.now u)) }
+    ensures { world state.new result out.new ≡ made_all (world state.old count out.old) (across (vertices_at first.now size.now listed.now zone.now u) (leave_moves (kind_at kind.now zone.now u) (arrangement_of state.old (vertices_at first.now size.now listed.now zone.now u)) r (get_or place.now u 0))) }
 {
-    if motion::robot_in(robots, Vertex(u)) == r {
+    if state.robot_on(Vertex(u)).0 == r {
         return count;
     }
     let z = zone[u as usize] as usize;
@@ -91,8 +89,7 @@ pub fn leave_at<'a>(
     let e = a + size[z] as usize;
     let j = place[u as usize] as usize;
     leave_in(
-        robots,
-        vertices,
+        state,
         count,
         kind[z],
         &listed[a..e],
@@ -104,21 +101,20 @@ pub fn leave_at<'a>(
 }
 
 // Is place j of the zone, which is vertex v, empty and the named robot behind it?
-fn is_ready(kind: u8, robots: &[u8], zone: &[u8], j: usize, behind: u8, v: Vertex) -> bool
+fn is_ready(kind: u8, state: &State, zone: &[u8], j: usize, behind: u8, v: Vertex) -> bool
     requires { j < length zone.now }
-    ensures { result ≡ true → (255 ≡ get_or robots.now v.0 255) × (behind_of kind (arrangement_of (on_vertices robots.now) zone.now) j ≡ behind) }
+    ensures { result ≡ true → (255 ≡ robot_on state.now v.0 255) × (behind_of kind (arrangement_of state.now zone.now) j ≡ behind) }
 {
-    if motion::robot_in(robots, v) != 255 {
+    if state.robot_on(v).0 != 255 {
         return false;
     }
-    let nearest = leeway::behind_of(kind, robots, zone, j);
+    let nearest = leeway::behind_of(kind, state, zone, j);
     nearest == behind
 }
 
 // The moves that make room at place j, which is vertex v, where the step fills no clique: none where the zone is ready.
 fn enter_room(
-    robots: &mut [u8],
-    vertices: &mut [u8],
+    state: &mut State,
     count: usize,
     kind: u8,
     zone: &[u8],
@@ -128,18 +124,17 @@ fn enter_room(
     out: &mut [u8],
 ) -> usize
     requires zone_len_bound { (length zone.now ≤ 128) × (j < length zone.now) × (get_or zone.now j 0 ≡ v.0) }
-    requires listed { Listed (length robots.old) zone.now }
-    requires proper { Proper (arrangement_of (tabled robots.old vertices.old) zone.now) }
-    requires zone_value { extra_of kind (arrangement_of (tabled robots.old vertices.old) zone.now) ≡ 0 }
-    ensures { world_in robots.new vertices.new result out.new ≡ made_all (world_in robots.old vertices.old count out.old) (across zone.now (enter_moves kind (arrangement_of (tabled robots.old vertices.old) zone.now) j behind [])) }
+    requires listed { Listed (length state.old.robots) zone.now }
+    requires proper { Proper (arrangement_of state.old zone.now) }
+    requires zone_value { extra_of kind (arrangement_of state.old zone.now) ≡ 0 }
+    ensures { world state.new result out.new ≡ made_all (world state.old count out.old) (across zone.now (enter_moves kind (arrangement_of state.old zone.now) j behind [])) }
 {
-    if is_ready(kind, robots, zone, j, behind, v) {
+    if is_ready(kind, state, zone, j, behind, v) {
         return count;
     }
     zones::enter(
         kind,
-        robots,
-        vertices,
+        state,
         count,
         zone,
         j,
@@ -151,8 +146,7 @@ fn enter_room(
 
 // The moves that make room at place j, with the follow list that is copied into the lent bytes.
 fn enter_in(
-    robots: &mut [u8],
-    vertices: &mut [u8],
+    state: &mut State,
     count: usize,
     file: &[u8],
     from: usize,
@@ -164,20 +158,19 @@ fn enter_in(
     out: &mut [u8],
 ) -> usize
     requires zone_len_bound { (length zone.now ≤ 128) × (j < length zone.now) × (length list.old ≤ 128) × (from + length list.old ≤ length file.now / 512 * 504) }
-    requires listed { Listed (length robots.old) zone.now }
+    requires listed { Listed (length state.old.robots) zone.now }
     requires numbered { Numbered (held_part file.now (from + length list.old) from (length list.old)) j }
-    requires proper { Proper (arrangement_of (tabled robots.old vertices.old) zone.now) }
-    requires list_len { length list.old ≡ extra_of kind (arrangement_of (tabled robots.old vertices.old) zone.now) }
-    ensures { world_in robots.new vertices.new result out.new ≡ made_all (world_in robots.old vertices.old count out.old) (across zone.now (enter_moves kind (arrangement_of (tabled robots.old vertices.old) zone.now) j behind (held_part file.now (from + length list.old) from (length list.old)))) }
+    requires proper { Proper (arrangement_of state.old zone.now) }
+    requires list_len { length list.old ≡ extra_of kind (arrangement_of state.old zone.now) }
+    ensures { world state.new result out.new ≡ made_all (world state.old count out.old) (across zone.now (enter_moves kind (arrangement_of state.old zone.now) j behind (held_part file.now (from + length list.old) from (length list.old)))) }
 {
     copy_list(file, from, list);
-    zones::enter(kind, robots, vertices, count, zone, j, behind, list, out)
+    zones::enter(kind, state, count, zone, j, behind, list, out)
 }
 
 // The moves that make room at vertex v, where the follow list has n bytes.
 pub fn enter_at<'a>(
-    robots: &mut [u8],
-    vertices: &mut [u8],
+    state: &mut State,
     count: usize,
     file: &[u8],
     from: usize,
@@ -195,10 +188,10 @@ pub fn enter_at<'a>(
     requires n_bound { (n ≤ 128) × (from + n ≤ length file.now / 512 * 504) }
     requires has_vertex { HasVertex first.now size.now listed.now zone.now place.now v }
     requires numbered { Numbered (held_part file.now (from + n) from n) (get_or place.now v 0) }
-    requires robots_len { length robots.old ≡ 128 }
-    requires proper { Proper (arrangement_of (tabled robots.old vertices.old) (vertices_at first.now size.now listed.now zone.now v)) }
-    requires n_value { n ≡ extra_of (kind_at kind.now zone.now v) (arrangement_of (tabled robots.old vertices.old) (vertices_at first.now size.now listed.now zone.now v)) }
-    ensures { world_in robots.new vertices.new result out.new ≡ made_all (world_in robots.old vertices.old count out.old) (across (vertices_at first.now size.now listed.now zone.now v) (enter_moves (kind_at kind.now zone.now v) (arrangement_of (tabled robots.old vertices.old) (vertices_at first.now size.now listed.now zone.now v)) (get_or place.now v 0) behind (held_part file.now (from + n) from n))) }
+    requires robots_len { length state.old.robots ≡ 128 }
+    requires proper { Proper (arrangement_of state.old (vertices_at first.now size.now listed.now zone.now v)) }
+    requires n_value { n ≡ extra_of (kind_at kind.now zone.now v) (arrangement_of state.old (vertices_at first.now size.now listed.now zone.now v)) }
+    ensures { world state.new result out.new ≡ made_all (world state.old count out.old) (across (vertices_at first.now size.now listed.now zone.now v) (enter_moves (kind_at kind.now zone.now v) (arrangement_of state.old (vertices_at first.now size.now listed.now zone.now v)) (get_or place.now v 0) behind (held_part file.now (from + n) from n))) }
 {
     let z = zone[v as usize] as usize;
     let a = first[z] as usize;
@@ -206,8 +199,7 @@ pub fn enter_at<'a>(
     let j = place[v as usize] as usize;
     if n == 0 {
         return enter_room(
-            robots,
-            vertices,
+            state,
             count,
             kind[z],
             &listed[a..e],
@@ -219,8 +211,7 @@ pub fn enter_at<'a>(
     }
     let mut list = [0u8; 128];
     enter_in(
-        robots,
-        vertices,
+        state,
         count,
         file,
         from,

@@ -20,7 +20,6 @@ use Rattle.layout.specs.declared.MapRead.{MapRead}
 use Rattle.layout.specs.Map.{MapHeld}
 use Rattle.layout.specs.Tables.{entry_of, entry_is}
 use Rattle.writer.specs.Laid.{laid_all, laid_append}
-use Rattle.motion.specs.Tables.{tabled, on_vertices}
 use Rattle.drawing.specs.declared.Drawn.{Drawn}
 use Rattle.noting.specs.Follow.{followed, step_from}
 use Rattle.noting.proofs.Follow.{follow_length}

@@ -8,7 +8,6 @@ ghost use Rattle.theory.specs.Maps.Layout.{Accepted};
 ghost use Rattle.zoning.specs.declared.MapFault.{MapFault};
 ghost use Rattle.layout.specs.Map.{MapHeld};
 ghost use Rattle.motion.specs.States.{state_of, moved_by};
-ghost use Rattle.motion.specs.Tables.{tabled, on_vertices};
 ghost use Rattle.replay.specs.Moves.{file_bytes, three_move};
 ghost use Rattle.drawing.specs.Drawn.{lent_map, MoveDrawn, part_of, EndsOn, AllDrawn};
 
@@ -39,7 +38,7 @@ fn part_of(listed: &[u8], a: usize, e: usize) -> &[u8]
 // Lays the step of robot r's move from u to v, if that is a move between zones.
 fn draw_move(
     d: Drawn,
-    robots: &[u8],
+    state: &State,
     zone: &[u8; 128],
     kinds: &[u8; 64],
     firsts: &[u8; 64],
@@ -52,7 +51,7 @@ fn draw_move(
     out: &mut [u8],
 ) -> Drawn
     requires { (d.steps < 65536) × (d.bytes < 4294967040) }
-    ensures move_drawn { (f : MapFault) (n z : ℕ) (m : Map) → MapHeld (lent_map f n z kinds.now firsts.now sizes.now listed.now zone.now place.now) m → v < m.size → Accepted m → MoveDrawn m (on_vertices robots.now) (mv r u v) d out.old result out.new }
+    ensures move_drawn { (f : MapFault) (n z : ℕ) (m : Map) → MapHeld (lent_map f n z kinds.now firsts.now sizes.now listed.now zone.now place.now) m → v < m.size → Accepted m → MoveDrawn m state.now (mv r u v) d out.old result out.new }
     ensures steps_bound { (result.steps ≤ d.steps + 1) × (result.bytes ≤ d.bytes + 132) }
 {
     let x = layout::tables::zone_of(zone, Vertex(u));
@@ -75,9 +74,9 @@ fn draw_move(
     if part.len() != n {
         return d;
     }
-    let behind = leeway::behind_of(kind, robots, part, j);
-    let filled = leeway::fills(kind, robots, part);
-    let bytes = write_step(robots, part, j, r, u, v, behind, filled, d.bytes, out);
+    let behind = leeway::behind_of(kind, state, part, j);
+    let filled = leeway::fills(kind, state, part);
+    let bytes = write_step(state, part, j, r, u, v, behind, filled, d.bytes, out);
     Drawn {
         steps: d.steps + 1,
         bytes: bytes,
@@ -87,8 +86,7 @@ fn draw_move(
 // Makes the move before, and lays the step of the next one, if that is a move between zones: as its robot comes in.
 fn next_step(
     d: Drawn,
-    robots: &mut [u8],
-    vertices: &mut [u8],
+    state: &mut State,
     zone: &[u8; 128],
     kinds: &[u8; 64],
     firsts: &[u8; 64],
@@ -100,19 +98,18 @@ fn next_step(
     out: &mut [u8],
 ) -> Drawn
     requires { (d.steps < 65536) × (d.bytes < 4294967040) }
-    ensures vertices_after { tabled robots.new vertices.new ≡ moved_by (tabled robots.old vertices.old) (three_move last) }
-    ensures move_drawn { (f : MapFault) (n z : ℕ) (m : Map) → MapHeld (lent_map f n z kinds.now firsts.now sizes.now listed.now zone.now place.now) m → x.third < m.size → Accepted m → MoveDrawn m (moved_by (tabled robots.old vertices.old) (three_move last)) (three_move x) d out.old result out.new }
+    ensures vertices_after { state.new ≡ moved_by state.old (three_move last) }
+    ensures move_drawn { (f : MapFault) (n z : ℕ) (m : Map) → MapHeld (lent_map f n z kinds.now firsts.now sizes.now listed.now zone.now place.now) m → x.third < m.size → Accepted m → MoveDrawn m (moved_by state.old (three_move last)) (three_move x) d out.old result out.new }
     ensures steps_bound { (result.steps ≤ d.steps + 1) × (result.bytes ≤ d.bytes + 132) }
 {
     motion::shift(
-        robots,
-        vertices,
+        state,
         Robot(last.first),
         Vertex(last.second),
         Vertex(last.third),
     );
     draw_move(
-        d, robots, zone, kinds, firsts, sizes, place, listed, x.first, x.second, x.third, out,
+        d, state, zone, kinds, firsts, sizes, place, listed, x.first, x.second, x.third, out,
     )
 }
 
@@ -129,9 +126,9 @@ pub fn draw_moves(
     requires { count < 65536 }
     ensures { (m : Map) → MapHeld map m → Accepted m → listed ≡ map.listed → EndsOn m (file_bytes file.now) count → AllDrawn m (file_bytes file.now) count (state_of s) out.old result out.new }
 {
-    let mut robots = [255u8; 128];
+    let mut state = [255u8; 128];
     let mut vertices = [255u8; 64];
-    motion::robots_of(s, &mut robots);
+    motion::robots_of(s, &mut state);
     motion::vertices_of(s, &mut vertices);
     let zone = map.zone;
     let kinds = map.kind;
@@ -150,7 +147,7 @@ pub fn draw_moves(
         let x = wire::three_from(file, at);
         d = next_step(
             d,
-            &mut robots,
+            &mut state,
             &mut vertices,
             &zone,
             &kinds,

@@ -2,17 +2,16 @@
 ghost use Rattle.std.specs.Prelude.{◌≡◌, ◌-◌, ◌≤◌, length};
 ghost use Rattle.spec.specs.State.{across};
 ghost use Rattle.spec.specs.Hall.{down, up, lowering, raising, hall_moves};
-ghost use Rattle.motion.specs.World.{world_in, made_all};
+ghost use Rattle.motion.specs.World.{world, made_all};
 ghost use Rattle.hall.specs.Trips.{trips_of};
 
 use cells::vertex_at;
-use motion::make;
+use motion::State;
 use numbering::Robot;
 
 // Robot r goes down from a place to a lower one.
 fn lower(
-    robots: &mut [u8],
-    vertices: &mut [u8],
+    state: &mut State,
     count: usize,
     zone: &[u8],
     r: Robot,
@@ -20,7 +19,7 @@ fn lower(
     to: u8,
     out: &mut [u8],
 ) -> usize
-    ensures { world_in robots.new vertices.new result out.new ≡ made_all (world_in robots.old vertices.old count out.old) (across zone.now (down r.0 (from - to) to)) }
+    ensures { world state.new result out.new ≡ made_all (world state.old count out.old) (across zone.now (down r.0 (from - to) to)) }
 {
     let mut made = count;
     let stop = to as usize;
@@ -28,7 +27,7 @@ fn lower(
     while stop < at {
         let v = vertex_at(zone, at);
         let w = vertex_at(zone, at - 1);
-        made = make(robots, vertices, made, r, v, w, out);
+        made = state.make(made, r, v, w, out);
         at -= 1;
     }
     made
@@ -36,8 +35,7 @@ fn lower(
 
 // Robot r goes up from a place to a higher one.
 fn raise(
-    robots: &mut [u8],
-    vertices: &mut [u8],
+    state: &mut State,
     count: usize,
     zone: &[u8],
     r: Robot,
@@ -45,7 +43,7 @@ fn raise(
     to: u8,
     out: &mut [u8],
 ) -> usize
-    ensures { world_in robots.new vertices.new result out.new ≡ made_all (world_in robots.old vertices.old count out.old) (across zone.now (up r.0 (to - from) from)) }
+    ensures { world state.new result out.new ≡ made_all (world state.old count out.old) (across zone.now (up r.0 (to - from) from)) }
 {
     let mut made = count;
     let stop = to as usize;
@@ -53,7 +51,7 @@ fn raise(
     while at < stop {
         let v = vertex_at(zone, at);
         let w = vertex_at(zone, at + 1);
-        made = make(robots, vertices, made, r, v, w, out);
+        made = state.make(made, r, v, w, out);
         at += 1;
     }
     made
@@ -61,8 +59,7 @@ fn raise(
 
 // "carts going lower, lowest first, each all its way": the first n robots, each from its place to its goal.
 fn lower_all(
-    robots: &mut [u8],
-    vertices: &mut [u8],
+    state: &mut State,
     count: usize,
     zone: &[u8],
     line: &[u8],
@@ -72,7 +69,7 @@ fn lower_all(
     out: &mut [u8],
 ) -> usize
     requires { (n ≤ length line.now) × (n ≤ length places.now) × (n ≤ length goals.now) }
-    ensures { world_in robots.new vertices.new result out.new ≡ made_all (world_in robots.old vertices.old count out.old) (across zone.now (lowering (trips_of line.now places.now goals.now n))) }
+    ensures { world state.new result out.new ≡ made_all (world state.old count out.old) (across zone.now (lowering (trips_of line.now places.now goals.now n))) }
 {
     let mut made = count;
     let mut i: usize = 0;
@@ -80,7 +77,7 @@ fn lower_all(
         let r = line[i];
         let p = places[i];
         let q = goals[i];
-        made = lower(robots, vertices, made, zone, Robot(r), p, q, out);
+        made = lower(state, made, zone, Robot(r), p, q, out);
         i += 1;
     }
     made
@@ -88,8 +85,7 @@ fn lower_all(
 
 // "then carts going higher, highest first"
 fn raise_all(
-    robots: &mut [u8],
-    vertices: &mut [u8],
+    state: &mut State,
     count: usize,
     zone: &[u8],
     line: &[u8],
@@ -99,7 +95,7 @@ fn raise_all(
     out: &mut [u8],
 ) -> usize
     requires { (n ≤ length line.now) × (n ≤ length places.now) × (n ≤ length goals.now) }
-    ensures { world_in robots.new vertices.new result out.new ≡ made_all (world_in robots.old vertices.old count out.old) (across zone.now (raising (trips_of line.now places.now goals.now n))) }
+    ensures { world state.new result out.new ≡ made_all (world state.old count out.old) (across zone.now (raising (trips_of line.now places.now goals.now n))) }
 {
     let mut made = count;
     let mut left = n;
@@ -108,7 +104,7 @@ fn raise_all(
         let r = line[i];
         let p = places[i];
         let q = goals[i];
-        made = raise(robots, vertices, made, zone, Robot(r), p, q, out);
+        made = raise(state, made, zone, Robot(r), p, q, out);
         left -= 1;
     }
     made
@@ -116,8 +112,7 @@ fn raise_all(
 
 // "Moving to given hall places": the first n robots, each from its place to its goal.
 pub fn settle(
-    robots: &mut [u8],
-    vertices: &mut [u8],
+    state: &mut State,
     count: usize,
     zone: &[u8],
     line: &[u8],
@@ -127,8 +122,8 @@ pub fn settle(
     out: &mut [u8],
 ) -> usize
     requires { (n ≤ length line.now) × (n ≤ length places.now) × (n ≤ length goals.now) }
-    ensures { world_in robots.new vertices.new result out.new ≡ made_all (world_in robots.old vertices.old count out.old) (across zone.now (hall_moves (trips_of line.now places.now goals.now n))) }
+    ensures { world state.new result out.new ≡ made_all (world state.old count out.old) (across zone.now (hall_moves (trips_of line.now places.now goals.now n))) }
 {
-    let lowered = lower_all(robots, vertices, count, zone, line, places, goals, n, out);
-    raise_all(robots, vertices, lowered, zone, line, places, goals, n, out)
+    let lowered = lower_all(state, count, zone, line, places, goals, n, out);
+    raise_all(state, lowered, zone, line, places, goals, n, out)
 }

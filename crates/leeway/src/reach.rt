@@ -5,67 +5,67 @@ ghost use Rattle.spec.specs.Arrangement.{full, last_free};
 ghost use Rattle.spec.specs.Ring.{ring_behind};
 ghost use Rattle.spec.specs.State.{arrangement_of};
 ghost use Rattle.spec.specs.ZoneKind.{behind_of, can_leave, can_enter, can_end};
-ghost use Rattle.motion.specs.Tables.{on_vertices};
 
+use motion::State;
 use numbering::Robot;
 
 // "in a ring, the first cart met going backward from to, 255 if the ring is empty"
-fn behind_round(robots: &[u8], zone: &[u8], j: usize) -> u8
+fn behind_round(state: &State, zone: &[u8], j: usize) -> u8
     requires { j < length zone.now }
-    ensures { result ≡ ring_behind (arrangement_of (on_vertices robots.now) zone.now) j }
+    ensures { result ≡ ring_behind (arrangement_of state.now zone.now) j }
 {
-    let r = reaching::reach::behind(robots, zone, 0, j);
+    let r = reaching::reach::behind(state, zone, 0, j);
     if r != 255 {
         return r;
     }
-    reaching::reach::behind(robots, zone, j + 1, zone.len())
+    reaching::reach::behind(state, zone, j + 1, zone.len())
 }
 
 // The neighbour that a step to place j names: its behind, from the lent table of the robots by vertex.
-pub fn behind_of(kind: u8, robots: &[u8], zone: &[u8], j: usize) -> u8
+pub fn behind_of(kind: u8, state: &State, zone: &[u8], j: usize) -> u8
     requires { j < length zone.now }
-    ensures { result ≡ behind_of kind (arrangement_of (on_vertices robots.now) zone.now) j }
+    ensures { result ≡ behind_of kind (arrangement_of state.now zone.now) j }
 {
     match kind {
         3 => 255,
-        4 => behind_round(robots, zone, j),
-        _ => reaching::reach::behind(robots, zone, 0, j),
+        4 => behind_round(state, zone, j),
+        _ => reaching::reach::behind(state, zone, 0, j),
     }
 }
 
 // "'Full' means a cart on every point."
-pub fn is_full(robots: &[u8], zone: &[u8]) -> bool
-    ensures { result ≡ full (arrangement_of (on_vertices robots.now) zone.now) }
+pub fn is_full(state: &State, zone: &[u8]) -> bool
+    ensures { result ≡ full (arrangement_of state.now zone.now) }
 {
-    clique::is_full(robots, zone)
+    clique::is_full(state, zone)
 }
 
 // Does whoever enters fill a clique, so that the step has a follow list?
-pub fn fills(kind: u8, robots: &[u8], zone: &[u8]) -> bool
-    ensures { result ≡ (eqb kind 3 and last_free (arrangement_of (on_vertices robots.now) zone.now)) }
+pub fn fills(kind: u8, state: &State, zone: &[u8]) -> bool
+    ensures { result ≡ (eqb kind 3 and last_free (arrangement_of state.now zone.now)) }
 {
     let is_clique = kind == 3;
     if is_clique {
-        return vacating::last_free(robots, zone);
+        return vacating::last_free(state, zone);
     }
     false
 }
 
 // "Leaving needs a reachable arrangement with the cart at from": robot r at place j.
-pub fn can_leave(kind: u8, robots: &[u8], zone: &[u8], r: Robot, j: usize) -> bool
-    ensures { result ≡ can_leave kind (arrangement_of (on_vertices robots.now) zone.now) r.0 j }
+pub fn can_leave(kind: u8, state: &State, zone: &[u8], r: Robot, j: usize) -> bool
+    ensures { result ≡ can_leave kind (arrangement_of state.now zone.now) r.0 j }
 {
     match kind {
-        3 => vacating::can_leave(robots, zone, r, j),
-        4 => turned::can_leave(robots, zone, r, j),
-        _ => reaching::reach::can_leave(robots, zone, r, j),
+        3 => vacating::can_leave(state, zone, r, j),
+        4 => turned::can_leave(state, zone, r, j),
+        _ => reaching::reach::can_leave(state, zone, r, j),
     }
 }
 
 // "Entering needs a reachable one with to empty and the named neighbour": robot r at place j of a zone that is not full.
 pub fn can_enter(
     kind: u8,
-    robots: &[u8],
+    state: &State,
     zone: &[u8],
     r: Robot,
     j: usize,
@@ -73,23 +73,23 @@ pub fn can_enter(
     list: &[u8],
 ) -> bool
     requires { (length zone.now ≤ 128) × (length list.now ≤ 128) }
-    ensures { result ≡ can_enter kind (arrangement_of (on_vertices robots.now) zone.now) r.0 j behind list.now }
+    ensures { result ≡ can_enter kind (arrangement_of state.now zone.now) r.0 j behind list.now }
 {
     match kind {
-        3 => clique::can_enter(robots, zone, r, j, behind, list),
-        4 => turned::can_enter(robots, zone, j, behind),
-        _ => reaching::reach::can_enter(robots, zone, j, behind),
+        3 => clique::can_enter(state, zone, r, j, behind, list),
+        4 => turned::can_enter(state, zone, j, behind),
+        _ => reaching::reach::can_enter(state, zone, j, behind),
     }
 }
 
 // Is the goals' arrangement in the configuration?
-pub fn can_end(kind: u8, robots: &[u8], zone: &[u8], goals: &[u8]) -> bool
+pub fn can_end(kind: u8, state: &State, zone: &[u8], goals: &State) -> bool
     requires { length zone.now ≤ 128 }
-    ensures { result ≡ can_end kind (arrangement_of (on_vertices robots.now) zone.now) (arrangement_of (on_vertices goals.now) zone.now) }
+    ensures { result ≡ can_end kind (arrangement_of state.now zone.now) (arrangement_of goals.now zone.now) }
 {
     match kind {
-        3 => clique::can_end(robots, zone, goals),
-        4 => turned::can_end(robots, zone, goals),
-        _ => reaching::reach::can_end(robots, zone, goals),
+        3 => clique::can_end(state, zone, goals),
+        4 => turned::can_end(state, zone, goals),
+        _ => reaching::reach::can_end(state, zone, goals),
     }
 }

@@ -1,22 +1,21 @@
 // The robots of a hall with their places, lowest first.
 ghost use Rattle.std.specs.Prelude.{◌≤◌, length};
 ghost use Rattle.spec.specs.State.{arrangement_of};
-ghost use Rattle.motion.specs.Tables.{on_vertices};
 ghost use Rattle.lineup.specs.Line.{Lined};
 
-use motion::robot_on;
+use motion::State;
 use numbering::Vertex;
 
 // How many robots stand in a zone; they and their places are written to the first of the lent bytes.
-pub fn line_up(robots: &[u8], zone: &[u8], line: &mut [u8], places: &mut [u8]) -> usize
+pub fn line_up(state: &State, zone: &[u8], line: &mut [u8], places: &mut [u8]) -> usize
     requires { (length zone.now ≤ 128) × (length zone.now ≤ length line.old) × (length zone.now ≤ length places.old) }
-    ensures { Lined (arrangement_of (on_vertices robots.now) zone.now) result line.new places.new }
+    ensures { Lined (arrangement_of state.now zone.now) result line.new places.new }
 {
     let mut n: usize = 0;
     let mut k: usize = 0;
     while k < zone.len() {
         let v = zone[k];
-        let r = robot_on(robots, Vertex(v));
+        let r = state.robot_on(Vertex(v));
         let place = k as u8;
         k += 1;
         if r.0 != 255 {

@@ -1,6 +1,5 @@
 -- What the functions of this crate do, and the laws that their callers use.
 pub mod States
-pub mod Tables
 pub mod World
 pub mod Across
 pub mod Coupling

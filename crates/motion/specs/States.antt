@@ -3,14 +3,12 @@ use Rattle.std.specs.Prelude.{◌≡◌, refl, ℕ, zero, suc, ◌+◌, ◌-◌,
 use Rattle.std.proofs.Common.{ap, ap₂, sym, ◌∙◌, append_assoc, add-one, arith, length-set, length-take, take-suc, take_all, length-take-le}
 use Rattle.std.proofs.Math.Decide.{dec_lt}
 use Rattle.std.proofs.lemmas.List.{length-map, set_at}
-use Rattle.std.proofs.Math.ListN.{get_or-map, get_or-eq_default}
-use Rattle.std.proofs.Math.Seq.{set_out, slice, slice-cons, slice_empty}
+use Rattle.std.proofs.Math.Seq.{slice, slice-cons, slice_empty}
 use Rattle.spec.specs.Arrangement.{Move, mv}
 use Rattle.spec.specs.State as meaning
-use Rattle.theory.specs.Basics.Lists.{get_d_default}
 use Rattle.numbering.specs.declared.Robot.{Robot}
 use Rattle.numbering.specs.declared.Vertex.{Vertex}
-use Rattle.motion.specs.declared.State.{State}
+use Rattle.motion.specs.declared.State.TheInside.{Inside}
 
 -- the numbers of a robot and of a vertex
 abbrev pub robot_no : Robot → ℕ
@@ -20,7 +18,7 @@ abbrev pub vertex_no : Vertex → ℕ
 vertex_no v = v.0
 
 -- the state's numbers
-abbrev pub state_of : State → meaning.State
+abbrev pub state_of : Inside → meaning.State
 state_of s = record { robots = map robot_no s.robots; vertices = map vertex_no s.vertices }
 
 abbrev numbers : List ℕ → List ℕ → meaning.State
@@ -46,28 +44,17 @@ map_set f (x ∷ l) (suc i) a = ap (λ t. f x ∷ t) (map_set f l i a)
 -- ---- stores
 
 -- robot r on vertex v; robot r listed at vertex v
-abbrev pub with_robot : State → ℕ → Robot → State
+abbrev pub with_robot : Inside → ℕ → Robot → Inside
 with_robot s v r = record { robots = set s.robots v r; vertices = s.vertices }
 
-abbrev pub with_vertex : State → ℕ → Vertex → State
+abbrev pub with_vertex : Inside → ℕ → Vertex → Inside
 with_vertex s r v = record { robots = s.robots; vertices = set s.vertices r v }
 
-abbrev code_state : List Robot → List Vertex → State
+abbrev pub code_state : List Robot → List Vertex → Inside
 code_state a b = record { robots = a; vertices = b }
 
--- a store past the end changes nothing
-pub robot_past_end : (s : State) (i : ℕ) (r : Robot) → length s.robots ≡ 128 → 128 ≤ i → s ≡ with_robot s i r
-robot_past_end s i r e h = ap (λ (l : List Robot). code_state l s.vertices) (sym (set_out s.robots i r (omega arith)))
-
-pub vertex_past_end : (s : State) (i : ℕ) (v : Vertex) → length s.vertices ≡ 64 → 64 ≤ i → s ≡ with_vertex s i v
-vertex_past_end s i v e h = ap (λ (l : List Vertex). code_state s.robots l) (sym (set_out s.vertices i v (omega arith)))
-
--- a store keeps the length
-pub robots_kept : (s t : State) (i n : ℕ) (r : Robot) → length s.robots ≡ n → t ≡ with_robot s i r → length t.robots ≡ n
-robots_kept s t i n r e d = ap (λ (x : State). length x.robots) d ∙ length-set s.robots i r ∙ e
-
 -- from is emptied, then the robot is put on to and listed there
-pub moved_leaves : (s a b t : State) (r : Robot) (f v : Vertex)
+pub moved_leaves : (s a b t : Inside) (r : Robot) (f v : Vertex)
     → a ≡ with_robot s f.0 (record { 0 = 255 }) → b ≡ with_robot a v.0 r → t ≡ with_vertex b r.0 v
     → state_of t ≡ moved_by (state_of s) (mv r.0 f.0 v.0)
 unfolding meaning.moved
@@ -79,30 +66,10 @@ moved_leaves s a b t r f v e d h =
     ∙ ap (λ (l : List ℕ). set l v.0 r.0) (map_set robot_no s.robots f.0 (record { 0 = 255 })))
     (map_set vertex_no s.vertices r.0 v)
 
--- ---- reads
-
--- the robot on a vertex, and on none
-pub robot_in_lem : (s : State) (v : ℕ) → length s.robots ≡ 128 → v < 128 → (get_or s.robots v (record { 0 = 0 })).0 ≡ meaning.robot_on (state_of s) v
-robot_in_lem s v e h =
-    sym (get_or-map robot_no s.robots v (record { 0 = 0 }))
-    ∙ get_d_default (map robot_no s.robots) v 0 255 (omega (arith, length-map s.robots robot_no))
-
-pub robot_past : (s : State) (v : ℕ) → length s.robots ≡ 128 → 128 ≤ v → 255 ≡ meaning.robot_on (state_of s) v
-robot_past s v e h = sym (get_or-eq_default (map robot_no s.robots) 255 (omega (arith, length-map s.robots robot_no)))
-
--- the vertex of a robot, and of none
-pub vertex_in : (s : State) (r : ℕ) → length s.vertices ≡ 64 → r < 64 → (get_or s.vertices r (record { 0 = 0 })).0 ≡ get_or (state_of s).vertices r 255
-vertex_in s r e h =
-    sym (get_or-map vertex_no s.vertices r (record { 0 = 0 }))
-    ∙ get_d_default (map vertex_no s.vertices) r 0 255 (omega (arith, length-map s.vertices vertex_no))
-
-pub vertex_past : (s : State) (r : ℕ) → length s.vertices ≡ 64 → 64 ≤ r → 255 ≡ get_or (state_of s).vertices r 255
-vertex_past s r e h = sym (get_or-eq_default (map vertex_no s.vertices) 255 (omega (arith, length-map s.vertices vertex_no)))
-
 -- ---- starts
 
 -- the first i of n robots stand on their starts vs: put the rest there, and all do
-pub record Standing (vs : List ℕ) (n i : ℕ) (s : State) : Type 0 where
+pub record Standing (vs : List ℕ) (n i : ℕ) (s : Inside) : Type 0 where
   pub within : i ≤ n
   pub fits : n ≤ 64
   pub long : length vs ≡ 64
@@ -112,14 +79,14 @@ pub record Standing (vs : List ℕ) (n i : ℕ) (s : State) : Type 0 where
   pub listed : map vertex_no s.vertices ≡ take i vs ++ replicate (64 - i) 255
 
 -- no robot yet
-abbrev pub nobody : State
+abbrev pub nobody : Inside
 nobody = code_state (replicate 128 (record { 0 = 255 })) (replicate 64 (record { 0 = 255 }))
 
 pub standing_none : (vs : List ℕ) (n : ℕ) → n ≤ 64 → length vs ≡ 64 → Standing vs n 0 nobody
 standing_none vs n h e = record { within = omega arith; fits = h; long = e; robots_long = refl; vertices_long = refl; rest = refl; listed = refl }
 
 -- one robot more
-pub standing_next : (vs : List ℕ) (n i : ℕ) (s t : State) (r : Robot) (v : Vertex) → Standing vs n i s → i < n
+pub standing_next : (vs : List ℕ) (n i : ℕ) (s t : Inside) (r : Robot) (v : Vertex) → Standing vs n i s → i < n
     → r.0 ≡ i → v.0 ≡ get_or vs i 0 → t ≡ with_robot (with_vertex s i v) v.0 r → Standing vs n (i + 1) t
 unfolding meaning.put
 standing_next vs n i s t r v S h er ev e =
@@ -127,16 +94,16 @@ standing_next vs n i s t r v S h er ev e =
       within = omega arith;
       fits = S.fits;
       long = S.long;
-      robots_long = ap (λ (x : State). length x.robots) e ∙ length-set s.robots v.0 r ∙ S.robots_long;
-      vertices_long = ap (λ (x : State). length x.vertices) e ∙ length-set s.vertices i v ∙ S.vertices_long;
+      robots_long = ap (λ (x : Inside). length x.robots) e ∙ length-set s.robots v.0 r ∙ S.robots_long;
+      vertices_long = ap (λ (x : Inside). length x.vertices) e ∙ length-set s.vertices i v ∙ S.vertices_long;
       rest =
-          ap₂ (λ (x : State) (k : ℕ). meaning.put (map robot_no x.robots) (i + 1) (slice k n vs)) e (add-one i)
+          ap₂ (λ (x : Inside) (k : ℕ). meaning.put (map robot_no x.robots) (i + 1) (slice k n vs)) e (add-one i)
           ∙ ap (λ (l : List ℕ). meaning.put l (i + 1) (slice (suc i) n vs)) (map_set robot_no s.robots v.0 r)
           ∙ ap₂ (λ (a b : ℕ). meaning.put (set (map robot_no s.robots) a b) (i + 1) (slice (suc i) n vs)) ev er
           ∙ sym (ap (meaning.put (map robot_no s.robots) i) (slice-cons i n vs 0 h (omega arith)))
           ∙ S.rest;
       listed =
-          ap (λ (x : State). map vertex_no x.vertices) e ∙ map_set vertex_no s.vertices i v
+          ap (λ (x : Inside). map vertex_no x.vertices) e ∙ map_set vertex_no s.vertices i v
           ∙ ap₂ (λ (l : List ℕ) (x : ℕ). set l i x) S.listed ev
           ∙ filled;
     }
@@ -150,7 +117,7 @@ standing_next vs n i s t r v S h er ev e =
         ∙ append_assoc (take i vs) (get_or vs i 0 ∷ []) (replicate (64 - (i + 1)) 255))
 
 -- all robots stand
-pub standing_all : (vs : List ℕ) (k n i : ℕ) (s : State) → Standing vs n i s → n ≤ i → n ≡ min k 64 → state_of s ≡ stood (take k vs)
+pub standing_all : (vs : List ℕ) (k n i : ℕ) (s : Inside) → Standing vs n i s → n ≤ i → n ≡ min k 64 → state_of s ≡ stood (take k vs)
 unfolding meaning.put meaning.standing
 standing_all vs k n i s S h m =
     let e : i ≡ n = omega arith in

@@ -3,7 +3,6 @@ use Rattle.std.specs.Prelude.{◌≡◌, refl, ℕ, ◌+◌, ◌*◌, ◌<◌, �
 use Rattle.std.proofs.Common.{ap, sym, ◌∙◌, arith, length-set, lt-ltb, le-ltb}
 use Rattle.spec.specs.Arrangement.{Move}
 use Rattle.spec.specs.State as meaning
-use Rattle.motion.specs.Tables.{tabled}
 use Rattle.writer.specs.Laid.{laid_all, laid_length, laid_out}
 
 -- ---- the buffer
@@ -49,10 +48,6 @@ pub record World : Type 0 where
 
 abbrev pub world : meaning.State → ℕ → List ℕ → World
 world s n o = record { state = s; count = n; buffer = o }
-
--- the same, the state in its two tables
-abbrev pub world_in : List ℕ → List ℕ → ℕ → List ℕ → World
-world_in robots vertices n o = world (tabled robots vertices) n o
 
 -- a move is made, counted and written
 unfoldable pub made : World → Move → World

@@ -3,29 +3,29 @@
 
 ghost use Rattle.std.specs.Prelude.{◌≡◌, ◌+◌, ◌≤◌, ◌<◌, length};
 ghost use Rattle.writer.specs.Laid.{laid_all};
-ghost use Rattle.motion.specs.Tables.{on_vertices};
 ghost use Rattle.noting.specs.Follow.{seated, followed, step_from};
 
+use motion::State;
 use numbering::Vertex;
 
 // Who stands on place i, a vertex v, once robot r has come in at place j.
-fn robot_after(robots: &[u8], v: u8, i: usize, j: usize, r: u8) -> usize
-    ensures { (result ≡ seated (on_vertices robots.now) v i j r) × (result < 256) }
+fn robot_after(state: &State, v: u8, i: usize, j: usize, r: u8) -> usize
+    ensures { (result ≡ seated state.now v i j r) × (result < 256) }
 {
     if i == j {
         return r as usize;
     }
-    motion::robot_in(robots, Vertex(v)) as usize
+    state.robot_on(Vertex(v)).0 as usize
 }
 
 // Lays the follow list of robot r's step into place j of a zone from payload offset `off` on.
-fn write_list(robots: &[u8], zone: &[u8], j: usize, r: u8, off: usize, out: &mut [u8])
+fn write_list(state: &State, zone: &[u8], j: usize, r: u8, off: usize, out: &mut [u8])
     requires { (length zone.now ≤ 255) × (off < 4294967296) }
-    ensures { out.new ≡ laid_all out.old off (followed (on_vertices robots.now) zone.now j r) }
+    ensures { out.new ≡ laid_all out.old off (followed state.now zone.now j r) }
 {
     let mut i: usize = 0;
     while i < zone.len() {
-        let x = robot_after(robots, zone[i], i, j, r);
+        let x = robot_after(state, zone[i], i, j, r);
         writer::put_byte(out, off + i, x as u8);
         i += 1;
     }
@@ -33,7 +33,7 @@ fn write_list(robots: &[u8], zone: &[u8], j: usize, r: u8, off: usize, out: &mut
 
 // Lays a step from payload offset `off` on, with the follow list where it fills a clique; gives the offset after it.
 pub fn write_step(
-    robots: &[u8],
+    state: &State,
     zone: &[u8],
     j: usize,
     r: u8,
@@ -45,12 +45,12 @@ pub fn write_step(
     out: &mut [u8],
 ) -> usize
     requires { (length zone.now ≤ 128) × (off < 4294967040) }
-    ensures { (result ≡ off + length (step_from (on_vertices robots.now) zone.now j r u v behind filled)) × (out.new ≡ laid_all out.old off (step_from (on_vertices robots.now) zone.now j r u v behind filled)) }
+    ensures { (result ≡ off + length (step_from state.now zone.now j r u v behind filled)) × (out.new ≡ laid_all out.old off (step_from state.now zone.now j r u v behind filled)) }
 {
     writer::put_three(out, off, r, u, v);
     writer::put_byte(out, off + 3, behind);
     if filled {
-        write_list(robots, zone, j, r, off + 4, out);
+        write_list(state, zone, j, r, off + 4, out);
         return off + 4 + zone.len();
     }
     off + 4

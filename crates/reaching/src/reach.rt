@@ -3,10 +3,9 @@ ghost use Rattle.std.specs.Prelude.{◌≡◌, take, drop};
 ghost use Rattle.spec.specs.Arrangement.{last_named};
 ghost use Rattle.spec.specs.State.{arrangement_of};
 ghost use Rattle.spec.specs.Hall.{room, hall_can_leave, hall_can_enter, hall_can_end};
-ghost use Rattle.motion.specs.Tables.{on_vertices};
 ghost use Rattle.reaching.specs.Reach.{Counted, NextIs};
 
-use motion::{least, robot_in, robot_on};
+use motion::State;
 use numbering::{Robot, Vertex};
 
 // How many robots stand in a zone, and how many of them below the named one; all, where it is not among them.
@@ -16,14 +15,14 @@ struct Count {
     all: usize,
 }
 
-fn count_robots(robots: &[u8], zone: &[u8], named: u8) -> Count
-    ensures { Counted (arrangement_of (on_vertices robots.now) zone.now) named result.lower result.all }
+fn count_robots(state: &State, zone: &[u8], named: u8) -> Count
+    ensures { Counted (arrangement_of state.now zone.now) named result.lower result.all }
 {
     let mut lower: usize = 0;
     let mut all: usize = 0;
     let mut k: usize = 0;
     while k < zone.len() {
-        let r = robot_on(robots, Vertex(zone[k]));
+        let r = state.robot_on(Vertex(zone[k]));
         k += 1;
         if r.0 != 255 {
             all += 1;
@@ -54,10 +53,10 @@ pub fn has_room(size: usize, j: usize, t: usize, u: usize) -> bool
 }
 
 // Can robot r leave at place j?
-pub fn can_leave(robots: &[u8], zone: &[u8], r: Robot, j: usize) -> bool
-    ensures { result ≡ hall_can_leave (arrangement_of (on_vertices robots.now) zone.now) r.0 j }
+pub fn can_leave(state: &State, zone: &[u8], r: Robot, j: usize) -> bool
+    ensures { result ≡ hall_can_leave (arrangement_of state.now zone.now) r.0 j }
 {
-    let c = count_robots(robots, zone, r.0);
+    let c = count_robots(state, zone, r.0);
     let t = c.lower;
     let n = c.all;
     if t < n {
@@ -67,10 +66,10 @@ pub fn can_leave(robots: &[u8], zone: &[u8], r: Robot, j: usize) -> bool
 }
 
 // Can a robot enter at place j with the named one behind it, 255 for none?
-pub fn can_enter(robots: &[u8], zone: &[u8], j: usize, behind: u8) -> bool
-    ensures { result ≡ hall_can_enter (arrangement_of (on_vertices robots.now) zone.now) j behind }
+pub fn can_enter(state: &State, zone: &[u8], j: usize, behind: u8) -> bool
+    ensures { result ≡ hall_can_enter (arrangement_of state.now zone.now) j behind }
 {
-    let c = count_robots(robots, zone, behind);
+    let c = count_robots(state, zone, behind);
     let t = c.lower;
     let n = c.all;
     if behind == 255 {
@@ -83,12 +82,12 @@ pub fn can_enter(robots: &[u8], zone: &[u8], j: usize, behind: u8) -> bool
 }
 
 // The first place from k on at which a robot stands; the size where there is none.
-fn next_robot(robots: &[u8], zone: &[u8], k: usize) -> usize
-    ensures { NextIs (on_vertices robots.now) zone.now k result }
+fn next_robot(state: &State, zone: &[u8], k: usize) -> usize
+    ensures { NextIs state.now zone.now k result }
 {
     let mut i = k;
     while i < zone.len() {
-        let r = robot_on(robots, Vertex(zone[i]));
+        let r = state.robot_on(Vertex(zone[i]));
         if r.0 != 255 {
             return i;
         }
@@ -98,34 +97,34 @@ fn next_robot(robots: &[u8], zone: &[u8], k: usize) -> usize
 }
 
 // Are the goals in the configuration: the same robots in the same order?
-pub fn can_end(robots: &[u8], zone: &[u8], goals: &[u8]) -> bool
-    ensures { result ≡ hall_can_end (arrangement_of (on_vertices robots.now) zone.now) (arrangement_of (on_vertices goals.now) zone.now) }
+pub fn can_end(state: &State, zone: &[u8], goals: &State) -> bool
+    ensures { result ≡ hall_can_end (arrangement_of state.now zone.now) (arrangement_of goals.now zone.now) }
 {
-    let mut i = next_robot(robots, zone, 0);
+    let mut i = next_robot(state, zone, 0);
     let mut k = next_robot(goals, zone, 0);
     while i < zone.len() {
         if zone.len() <= k {
             return false;
         }
-        let r = robot_on(robots, Vertex(zone[i]));
-        let g = robot_on(goals, Vertex(zone[k]));
+        let r = state.robot_on(Vertex(zone[i]));
+        let g = goals.robot_on(Vertex(zone[k]));
         if r.0 != g.0 {
             return false;
         }
-        i = next_robot(robots, zone, i + 1);
+        i = next_robot(state, zone, i + 1);
         k = next_robot(goals, zone, k + 1);
     }
     zone.len() <= k
 }
 
 // The nearest robot at a place lower than j and not lower than `from`, as a step names it: 255 if none.
-pub fn behind(robots: &[u8], zone: &[u8], from: usize, j: usize) -> u8
-    ensures { result ≡ last_named (drop from (take j (arrangement_of (on_vertices robots.now) zone.now))) }
+pub fn behind(state: &State, zone: &[u8], from: usize, j: usize) -> u8
+    ensures { result ≡ last_named (drop from (take j (arrangement_of state.now zone.now))) }
 {
-    let mut k = least(j, zone.len());
+    let mut k = j.min(zone.len());
     while from < k {
         k -= 1;
-        let r = robot_in(robots, Vertex(zone[k]));
+        let r = state.robot_on(Vertex(zone[k])).0;
         if r != 255 {
             return r;
         }

@@ -11,7 +11,6 @@ use Rattle.spec.specs.State.{State, robot_on, moved, moved_all}
 use Rattle.spec.specs.Run.{moves_from}
 use Rattle.motion.specs.declared.State as code
 use Rattle.motion.specs.States.{state_of}
-use Rattle.motion.specs.Tables.{tabled}
 use Rattle.wire.specs.Payload.{place_of, ThreeAt}
 use Rattle.wire.specs.declared.Three.{Three}
 

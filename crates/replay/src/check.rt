@@ -5,10 +5,10 @@ ghost use Rattle.spec.specs.Arrangement.{mv};
 ghost use Rattle.spec.specs.Run.{on_goals, checked_moves};
 ghost use Rattle.adjacency.specs.Rows.{Shows, bit_at};
 ghost use Rattle.wire.specs.Payload.{payload};
-ghost use Rattle.motion.specs.Tables.{tabled};
 ghost use Rattle.replay.specs.Moves.{move_tests};
 ghost use Rattle.replay.specs.Check.{fault_at, NumbersOf, off_goal, move_list_of, ReplayOf};
 
+use motion::State;
 use crate::{Fault, MoveList};
 use numbering::{Robot, Vertex};
 
@@ -25,8 +25,8 @@ fn edge_between(rows: &[[u64; 2]; 128], u: u8, v: u8) -> bool
 }
 
 // What is wrong with robot r's move from u to v, on a map of n vertices for k robots: 46, 47, 48.
-fn fault_of(robots: &[u8], rows: &[[u64; 2]; 128], n: usize, k: usize, r: u8, u: u8, v: u8) -> Fault
-    requires { (n ≤ 128) × (length robots.now ≡ 128) }
+fn fault_of(state: &State, rows: &[[u64; 2]; 128], n: usize, k: usize, r: u8, u: u8, v: u8) -> Fault
+    requires { (n ≤ 128) × (length state.now.robots ≡ 128) }
     ensures result_value { (m : Map) → m.size ≡ n → Shows rows.now m.edges → (vs : List ℕ) (i : ℕ) → fault_at i result ≡ move_tests m k (tabled robots.now vs) (mv r u v) i }
     ensures numbers_of { NumbersOf result n k r u v }
 {
@@ -44,10 +44,10 @@ fn fault_of(robots: &[u8], rows: &[[u64; 2]; 128], n: usize, k: usize, r: u8, u:
     if !edge_between(rows, u, v) {
         return Fault::Edge;
     }
-    if robots[a] != r {
+    if state[a] != r {
         return Fault::Standing;
     }
-    if robots[b] != 255 {
+    if state[b] != 255 {
         return Fault::Standing;
     }
     Fault::Nothing
@@ -77,12 +77,11 @@ fn replay_moves(
     rows: &[[u64; 2]; 128],
     n: usize,
     k: usize,
-    robots: &mut [u8],
-    vertices: &mut [u8],
+    state: &mut State,
 ) -> MoveList
     requires len_in_bounds { (len ≤ length file.now / 512 * 504) × (count < 65536) }
-    requires n_bound { (n ≤ 128) × (k ≤ 64) × (length robots.old ≡ 128) × (length vertices.old ≡ 64) }
-    ensures { (m : Map) → m.size ≡ n → Shows rows.now m.edges → ReplayOf m k (take len (payload file.now)) count (tabled robots.old vertices.old) result (tabled robots.new vertices.new) }
+    requires n_bound { (n ≤ 128) × (k ≤ 64) × (length state.old.robots ≡ 128) × (length vertices.old ≡ 64) }
+    ensures { (m : Map) → m.size ≡ n → Shows rows.now m.edges → ReplayOf m k (take len (payload file.now)) count state.old result state.new }
 {
     let mut i: usize = 0;
     let mut at: usize = 8;
@@ -91,7 +90,7 @@ fn replay_moves(
             return MoveList::Short(i);
         }
         let x = wire::three_from(file, at);
-        match fault_of(robots, rows, n, k, x.first, x.second, x.third) {
+        match fault_of(state, rows, n, k, x.first, x.second, x.third) {
             Fault::Number => {
                 return MoveList::Number(i);
             }
@@ -104,8 +103,7 @@ fn replay_moves(
             Fault::Nothing => {}
         }
         motion::shift(
-            robots,
-            vertices,
+            state,
             Robot(x.first),
             Vertex(x.second),
             Vertex(x.third),
@@ -134,11 +132,11 @@ pub fn check_moves(
     }
     let count = wire::payload_word(file, 0);
     let s = motion::standing(starts, k);
-    let mut robots = [255u8; 128];
+    let mut state = [255u8; 128];
     let mut vertices = [255u8; 64];
-    motion::robots_of(s, &mut robots);
+    motion::robots_of(s, &mut state);
     motion::vertices_of(s, &mut vertices);
-    let list = replay_moves(file, len, count, rows, n, k, &mut robots, &mut vertices);
+    let list = replay_moves(file, len, count, rows, n, k, &mut state, &mut vertices);
     match list {
         MoveList::Legal(_) => {}
         _ => {

@@ -30,10 +30,10 @@ pub fn resolve_plan<'a>(
     let count = wire::payload_word(file, 0);
     let s = motion::standing(starts, k);
     let g = motion::standing(goals, k);
-    let mut robots = [255u8; 128];
+    let mut state = [255u8; 128];
     let mut vertices = [255u8; 64];
     let mut targets = [255u8; 128];
-    motion::robots_of(s, &mut robots);
+    motion::robots_of(s, &mut state);
     motion::vertices_of(s, &mut vertices);
     motion::robots_of(g, &mut targets);
     let w = walk(
@@ -45,7 +45,7 @@ pub fn resolve_plan<'a>(
         listed,
         zone,
         place,
-        &mut robots,
+        &mut state,
         &mut vertices,
         out,
     );
@@ -57,7 +57,7 @@ pub fn resolve_plan<'a>(
         };
     }
     let all = end_zones(
-        &mut robots,
+        &mut state,
         &mut vertices,
         made,
         kind,

@@ -1,11 +1,11 @@
 // A cleared plan's steps, one after the other.
 ghost use Rattle.std.specs.Prelude.{◌<◌, take};
 ghost use Rattle.wire.specs.Payload.{payload};
-ghost use Rattle.motion.specs.Tables.{tabled};
-ghost use Rattle.motion.specs.World.{world_in};
+ghost use Rattle.motion.specs.World.{world};
 ghost use Rattle.walking.specs.Given.{Started};
 ghost use Rattle.resolve.specs.Whole.{WalkedTo};
 
+use motion::State;
 use crate::Walked;
 use stepping::follow::list_length_at;
 use stepping::step::make_step;
@@ -21,13 +21,12 @@ pub fn walk<'a>(
     listed: &'a [u8],
     zone: &'a [u8; 128],
     place: &'a [u8; 128],
-    robots: &mut [u8],
-    vertices: &mut [u8],
+    state: &mut State,
     out: &mut [u8],
 ) -> Walked
     requires count_bound { count < 65536 }
-    requires started { Started file.now count kind.now first.now size.now listed.now zone.now place.now (tabled robots.old vertices.old) }
-    ensures { (x : Started file.now count kind.now first.now size.now listed.now zone.now place.now (tabled robots.old vertices.old)) → WalkedTo x.map x.k (take x.len (payload file.now)) count (world_in robots.old vertices.old 0 out.old) result (world_in robots.new vertices.new result.made out.new) }
+    requires started { Started file.now count kind.now first.now size.now listed.now zone.now place.now state.old }
+    ensures { (x : Started file.now count kind.now first.now size.now listed.now zone.now place.now state.old) → WalkedTo x.map x.k (take x.len (payload file.now)) count (world state.old 0 out.old) result (world state.new result.made out.new) }
 {
     let mut made: usize = 0;
     let mut o: usize = 2;
@@ -41,11 +40,11 @@ pub fn walk<'a>(
                 made: made,
             };
         }
-        let e = list_length_at(kind, first, size, listed, zone, robots, four.third);
+        let e = list_length_at(kind, first, size, listed, zone, state, four.third);
         let next = o + 4 + e;
         let ahead = wire::payload_ahead(file, next);
         made = make_step(
-            robots, vertices, made, file, o, four, e, kind, first, size, listed, zone, place, out,
+            state, made, file, o, four, e, kind, first, size, listed, zone, place, out,
         );
         o = next;
         four = ahead;

@@ -19,7 +19,6 @@ use Rattle.theory.specs.Zones.Arrangements.{member→cell, cell_inside}
 use Rattle.theory.specs.Basics.Searches.{seek_ok}
 use Rattle.theory.specs.Zones.Ring.Frames.{Within}
 use Rattle.theory.specs.Zones.Ring.Opened.{length_opened}
-use Rattle.motion.specs.Tables.{on_vertices}
 use Rattle.motion.specs.World.{World, made_all, made_none}
 use Rattle.motion.specs.Across.{made_both, across_nil, arrangement_length}
 use Rattle.motion.specs.Coupling.{Listed, arranged}
@@ -223,11 +222,11 @@ end_robot a g r e =
 
 -- the push, then the hall
 pub end_both : (w u : World) (t : State) (vs os : List ℕ) (r j : ℕ) → Listed (length w.state.robots) vs
-    → lowest (order (arrangement_of (on_vertices w.state.robots) vs)) ≡ suc r → j < length vs → j ≡ seek (suc r) (arrangement_of t vs)
-    → seek (suc r) (arrangement_of (on_vertices w.state.robots) vs) < length vs → os ≡ opened j vs
-    → u ≡ made_all w (across vs (push_to (arrangement_of (on_vertices w.state.robots) vs) r j))
-    → made_all u (across os (hall_end (arrangement_of (on_vertices u.state.robots) os) (arrangement_of t os)))
-    ≡ made_all w (across vs (ring_end (arrangement_of (on_vertices w.state.robots) vs) (arrangement_of t vs)))
+    → lowest (order (arrangement_of w.state vs)) ≡ suc r → j < length vs → j ≡ seek (suc r) (arrangement_of t vs)
+    → seek (suc r) (arrangement_of w.state vs) < length vs → os ≡ opened j vs
+    → u ≡ made_all w (across vs (push_to (arrangement_of w.state vs) r j))
+    → made_all u (across os (hall_end (arrangement_of u.state os) (arrangement_of t os)))
+    ≡ made_all w (across vs (ring_end (arrangement_of w.state vs) (arrangement_of t vs)))
 unfolding ring_end_at push_to arrangement_of
 end_both w u t vs os r j M e h d i o k =
     let a : Arrangement = arrangement_of w.state vs in

@@ -3,23 +3,23 @@ ghost use Rattle.std.specs.Prelude.{◌≡◌, ◌-◌, ◌≤◌, ◌<◌, leng
 ghost use Rattle.spec.specs.Arrangement.{order};
 ghost use Rattle.spec.specs.Ring.{opened};
 ghost use Rattle.spec.specs.State.{arrangement_of, cell_of};
-ghost use Rattle.motion.specs.Tables.{on_vertices};
 ghost use Rattle.ring.specs.Ending.{lowest_cell};
 
+use motion::State;
 use cells::vertex_at;
 use circle::places::next;
 use circle::reading::robot_at;
 use numbering::Robot;
 
 // "the ring's lowest-numbered cart"; 255 where there is none.
-pub fn lowest(robots: &[u8], zone: &[u8]) -> Robot
-    ensures { cell_of result.0 ≡ lowest_cell (order (arrangement_of (on_vertices robots.now) zone.now)) }
+pub fn lowest(state: &State, zone: &[u8]) -> Robot
+    ensures { cell_of result.0 ≡ lowest_cell (order (arrangement_of state.now zone.now)) }
 {
     let mut best: u8 = 255;
     let mut k = zone.len();
     while 0 < k {
         k -= 1;
-        let x = robot_at(robots, zone, k);
+        let x = robot_at(state, zone, k);
         let lower = x.0 < best;
         if lower {
             best = x.0;

@@ -6,12 +6,12 @@
 ghost use Rattle.std.specs.Prelude.{◌≡◌, true, ◌≤◌, ◌<◌, length};
 ghost use Rattle.spec.specs.Ring.{ring_can_leave, ring_leave, ring_enter, ring_can_end, ring_end};
 ghost use Rattle.spec.specs.State.{across, arrangement_of};
-ghost use Rattle.motion.specs.Tables.{on_vertices};
-ghost use Rattle.motion.specs.World.{world_in, made_all};
+ghost use Rattle.motion.specs.World.{world, made_all};
 ghost use Rattle.motion.specs.Coupling.{Listed};
 
 mod ending;
 
+use motion::State;
 use cells::place_of;
 use circle::places::next;
 use circle::pushing::{push, push_to};
@@ -21,8 +21,7 @@ use turns::turning::{goes_on, step, turn_place};
 
 // "Leaving: push until at from": robot r, which can leave there, is pushed to place j.
 pub fn leave(
-    robots: &mut [u8],
-    vertices: &mut [u8],
+    state: &mut State,
     count: usize,
     zone: &[u8],
     r: Robot,
@@ -30,18 +29,17 @@ pub fn leave(
     out: &mut [u8],
 ) -> usize
     requires j_in_bounds { j < length zone.now }
-    requires listed { Listed (length robots.old) zone.now }
-    requires j_value { ring_can_leave (arrangement_of (on_vertices robots.old) zone.now) r.0 j ≡ true }
-    ensures { world_in robots.new vertices.new result out.new ≡ made_all (world_in robots.old vertices.old count out.old) (across zone.now (ring_leave (arrangement_of (on_vertices robots.old) zone.now) r.0 j)) }
+    requires listed { Listed (length state.old.robots) zone.now }
+    requires j_value { ring_can_leave (arrangement_of state.old zone.now) r.0 j ≡ true }
+    ensures { world state.new result out.new ≡ made_all (world state.old count out.old) (across zone.now (ring_leave (arrangement_of state.old zone.now) r.0 j)) }
 {
-    push_to(robots, vertices, count, zone, r, j, out)
+    push_to(state, count, zone, r, j, out)
 }
 
 // "Entering: while to is taken or the cart behind isn't the named one, push the cart on to, or if to is empty the first
 // behind it": place j is made ready. A robot that goes on alone from behind is the first behind still.
 pub fn enter(
-    robots: &mut [u8],
-    vertices: &mut [u8],
+    state: &mut State,
     count: usize,
     zone: &[u8],
     j: usize,
@@ -49,24 +47,24 @@ pub fn enter(
     out: &mut [u8],
 ) -> usize
     requires j_in_bounds { (j < length zone.now) × (length zone.now ≤ 128) }
-    requires listed { Listed (length robots.old) zone.now }
-    ensures { world_in robots.new vertices.new result out.new ≡ made_all (world_in robots.old vertices.old count out.old) (across zone.now (ring_enter (arrangement_of (on_vertices robots.old) zone.now) j behind)) }
+    requires listed { Listed (length state.old.robots) zone.now }
+    ensures { world state.new result out.new ≡ made_all (world state.old count out.old) (across zone.now (ring_enter (arrangement_of state.old zone.now) j behind)) }
 {
     let m = zone.len();
     let mut count = count;
     let mut left = m * m;
-    let mut p = turn_place(robots, zone, j, behind);
+    let mut p = turn_place(state, zone, j, behind);
     while 0 < left {
         if p == m {
             return count;
         }
         left -= 1;
-        if goes_on(robots, zone, j, p) {
-            count = step(robots, vertices, count, zone, p, out);
+        if goes_on(state, zone, j, p) {
+            count = step(state, count, zone, p, out);
             p = next(m, p);
         } else {
-            count = push(robots, vertices, count, zone, p, out);
-            p = turn_place(robots, zone, j, behind);
+            count = push(state, count, zone, p, out);
+            p = turn_place(state, zone, j, behind);
         }
     }
     count
@@ -75,26 +73,25 @@ pub fn enter(
 // "Ending: push the ring's lowest-numbered cart to its goal, then treat the other places .. as a hall": the robots go to
 // their goals, which can be reached.
 pub fn end(
-    robots: &mut [u8],
-    vertices: &mut [u8],
+    state: &mut State,
     count: usize,
     zone: &[u8],
-    goals: &[u8],
+    goals: &State,
     out: &mut [u8],
 ) -> usize
     requires zone_len_bound { length zone.now ≤ 128 }
-    requires listed { Listed (length robots.old) zone.now }
-    requires zone_value { ring_can_end (arrangement_of (on_vertices robots.old) zone.now) (arrangement_of (on_vertices goals.now) zone.now) ≡ true }
-    ensures { world_in robots.new vertices.new result out.new ≡ made_all (world_in robots.old vertices.old count out.old) (across zone.now (ring_end (arrangement_of (on_vertices robots.old) zone.now) (arrangement_of (on_vertices goals.now) zone.now))) }
+    requires listed { Listed (length state.old.robots) zone.now }
+    requires zone_value { ring_can_end (arrangement_of state.old zone.now) (arrangement_of goals.now zone.now) ≡ true }
+    ensures { world state.new result out.new ≡ made_all (world state.old count out.old) (across zone.now (ring_end (arrangement_of state.old zone.now) (arrangement_of goals.now zone.now))) }
 {
-    let r = lowest(robots, zone);
+    let r = lowest(state, zone);
     if r.0 == 255 {
         return count;
     }
     let j = place_of(goals, zone, r);
-    let pushed = push_to(robots, vertices, count, zone, r, j, out);
+    let pushed = push_to(state, count, zone, r, j, out);
     let mut others = [0u8; 128];
     open_at(zone, j, &mut others);
     let n = zone.len() - 1;
-    hall::end(robots, vertices, pushed, &others[..n], goals, out)
+    hall::end(state, pushed, &others[..n], goals, out)
 }

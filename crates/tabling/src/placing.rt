@@ -3,22 +3,21 @@ ghost use Rattle.std.specs.Prelude.{◌≡◌};
 ghost use Rattle.std.specs.Int.Count.{count_trailing_zeros};
 ghost use Rattle.spec.specs.Arrangement.{seek};
 ghost use Rattle.spec.specs.State.{arrangement_of};
-ghost use Rattle.motion.specs.Tables.{on_vertices};
 ghost use Rattle.tabling.specs.Places.{free_word};
 
 use cells::{seek_cell, seek_robot};
-use motion::{least, robot_on};
+use motion::State;
 use numbering::{Robot, Vertex};
 
 // The word of the empty places among the first 64: bit k is set where place k is empty.
-fn free_word(robots: &[u8], zone: &[u8]) -> u64
-    ensures { result ≡ free_word 64 (arrangement_of (on_vertices robots.now) zone.now) }
+fn free_word(state: &State, zone: &[u8]) -> u64
+    ensures { result ≡ free_word 64 (arrangement_of state.now zone.now) }
 {
     let mut w: u64 = 0;
-    let mut k = least(zone.len(), 64);
+    let mut k = zone.len().min(64);
     while 0 < k {
         k -= 1;
-        let r = robot_on(robots, Vertex(zone[k]));
+        let r = state.robot_on(Vertex(zone[k]));
         w = w * 2;
         if r.0 == 255 {
             w += 1;
@@ -36,14 +35,14 @@ fn earliest(w: u64) -> usize
 
 // "the earliest listed empty point": the trailing zeros of the free word; the size where no place is empty.
 // A clique has at most 64 places; a longer zone whose first 64 are taken is searched.
-pub fn first_free(robots: &[u8], zone: &[u8]) -> usize
-    ensures { result ≡ seek 0 (arrangement_of (on_vertices robots.now) zone.now) }
+pub fn first_free(state: &State, zone: &[u8]) -> usize
+    ensures { result ≡ seek 0 (arrangement_of state.now zone.now) }
 {
-    let w = free_word(robots, zone);
+    let w = free_word(state, zone);
     if 0 < w {
         return earliest(w);
     }
-    seek_robot(robots, zone, Robot(255))
+    seek_robot(state, zone, Robot(255))
 }
 
 // The free word of an arrangement in cells.
@@ -51,7 +50,7 @@ fn free_cells(cells: &[u8]) -> u64
     ensures { result ≡ free_word 64 cells.now }
 {
     let mut w: u64 = 0;
-    let mut k = least(cells.len(), 64);
+    let mut k = cells.len().min(64);
     while 0 < k {
         k -= 1;
         let x = cells[k];

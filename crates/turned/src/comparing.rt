@@ -4,20 +4,20 @@ ghost use Rattle.spec.specs.Outcome.{same_list};
 ghost use Rattle.spec.specs.Arrangement.{order};
 ghost use Rattle.spec.specs.Ring.{frame, turned};
 ghost use Rattle.spec.specs.State.{arrangement_of};
-ghost use Rattle.motion.specs.Tables.{on_vertices};
 ghost use Rattle.turned.specs.Comparing.{Taken};
 
+use motion::State;
 use cells::place_of;
 use circle::places::around;
 use circle::reading::{is_vacant, robot_at};
 
 // Do the same robots stand on the same places.
-pub fn same_cells(robots: &[u8], goals: &[u8], zone: &[u8]) -> bool
-    ensures { result ≡ same_list (arrangement_of (on_vertices robots.now) zone.now) (arrangement_of (on_vertices goals.now) zone.now) }
+pub fn same_cells(state: &State, goals: &State, zone: &[u8]) -> bool
+    ensures { result ≡ same_list (arrangement_of state.now zone.now) (arrangement_of goals.now zone.now) }
 {
     let mut i: usize = 0;
     while i < zone.len() {
-        let x = robot_at(robots, zone, i);
+        let x = robot_at(state, zone, i);
         let y = robot_at(goals, zone, i);
         if x.0 != y.0 {
             return false;
@@ -28,14 +28,14 @@ pub fn same_cells(robots: &[u8], goals: &[u8], zone: &[u8]) -> bool
 }
 
 // The first taken place from place k on, of the ring read from place p on; the size where there is none.
-pub fn taken_from(robots: &[u8], zone: &[u8], p: usize, k: usize) -> usize
+pub fn taken_from(state: &State, zone: &[u8], p: usize, k: usize) -> usize
     requires { (p < length zone.now) × (k ≤ length zone.now) }
-    ensures { Taken (frame p (arrangement_of (on_vertices robots.now) zone.now)) k result }
+    ensures { Taken (frame p (arrangement_of state.now zone.now)) k result }
 {
     let m = zone.len();
     let mut i = k;
     while i < m {
-        let x = robot_at(robots, zone, around(m, p, i));
+        let x = robot_at(state, zone, around(m, p, i));
         if x.0 != 255 {
             return i;
         }
@@ -45,15 +45,15 @@ pub fn taken_from(robots: &[u8], zone: &[u8], p: usize, k: usize) -> usize
 }
 
 // Is the order of the robots that of the goals read from place q on.
-pub fn same_round(robots: &[u8], goals: &[u8], zone: &[u8], q: usize) -> bool
+pub fn same_round(state: &State, goals: &State, zone: &[u8], q: usize) -> bool
     requires { q < length zone.now }
-    ensures { result ≡ same_list (order (arrangement_of (on_vertices robots.now) zone.now)) (order (frame q (arrangement_of (on_vertices goals.now) zone.now))) }
+    ensures { result ≡ same_list (order (arrangement_of state.now zone.now)) (order (frame q (arrangement_of goals.now zone.now))) }
 {
     let m = zone.len();
     let mut i: usize = 0;
     let mut k: usize = 0;
     while i < m {
-        let x = robot_at(robots, zone, i);
+        let x = robot_at(state, zone, i);
         i += 1;
         if x.0 != 255 {
             k = taken_from(goals, zone, q, k);
@@ -72,19 +72,19 @@ pub fn same_round(robots: &[u8], goals: &[u8], zone: &[u8], q: usize) -> bool
 }
 
 // Is the order of the robots that of the goals, turned: read from the place of the first robot on.
-pub fn same_turned(robots: &[u8], goals: &[u8], zone: &[u8]) -> bool
+pub fn same_turned(state: &State, goals: &State, zone: &[u8]) -> bool
     requires { 0 < length zone.now }
-    ensures { result ≡ turned (order (arrangement_of (on_vertices robots.now) zone.now)) (order (arrangement_of (on_vertices goals.now) zone.now)) }
+    ensures { result ≡ turned (order (arrangement_of state.now zone.now)) (order (arrangement_of goals.now zone.now)) }
 {
     let m = zone.len();
-    let p = taken_from(robots, zone, 0, 0);
+    let p = taken_from(state, zone, 0, 0);
     if p == m {
         return is_vacant(goals, zone);
     }
-    let r = robot_at(robots, zone, p);
+    let r = robot_at(state, zone, p);
     let q = place_of(goals, zone, r);
     if q == m {
         return false;
     }
-    same_round(robots, goals, zone, q)
+    same_round(state, goals, zone, q)
 }

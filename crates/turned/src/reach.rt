@@ -2,43 +2,43 @@
 ghost use Rattle.std.specs.Prelude.{◌≡◌};
 ghost use Rattle.spec.specs.Ring.{ring_can_leave, ring_can_enter, ring_can_end};
 ghost use Rattle.spec.specs.State.{arrangement_of};
-ghost use Rattle.motion.specs.Tables.{on_vertices};
 
+use motion::State;
 use crate::comparing::{same_cells, same_turned};
 use cells::{is_full, place_of, stands};
 use circle::reading::is_vacant;
 use numbering::Robot;
 
 // Can robot r leave at place j: anywhere, but in a full ring only where it stands.
-pub fn can_leave(robots: &[u8], zone: &[u8], r: Robot, j: usize) -> bool
-    ensures { result ≡ ring_can_leave (arrangement_of (on_vertices robots.now) zone.now) r.0 j }
+pub fn can_leave(state: &State, zone: &[u8], r: Robot, j: usize) -> bool
+    ensures { result ≡ ring_can_leave (arrangement_of state.now zone.now) r.0 j }
 {
-    if is_full(robots, zone) {
-        return stands(robots, zone, r, j);
+    if is_full(state, zone) {
+        return stands(state, zone, r, j);
     }
-    place_of(robots, zone, r) < zone.len()
+    place_of(state, zone, r) < zone.len()
 }
 
 // Can a robot enter at place j with the named robot behind it: one that is inside, 255 if the ring is empty.
-pub fn can_enter(robots: &[u8], zone: &[u8], j: usize, behind: u8) -> bool
-    ensures { result ≡ ring_can_enter (arrangement_of (on_vertices robots.now) zone.now) j behind }
+pub fn can_enter(state: &State, zone: &[u8], j: usize, behind: u8) -> bool
+    ensures { result ≡ ring_can_enter (arrangement_of state.now zone.now) j behind }
 {
-    if place_of(robots, zone, Robot(behind)) < zone.len() {
+    if place_of(state, zone, Robot(behind)) < zone.len() {
         return true;
     }
     let alone = behind == 255;
     if alone {
-        return is_vacant(robots, zone);
+        return is_vacant(state, zone);
     }
     false
 }
 
 // Are the goals in the ring's configuration: the order of the robots up to turning, or if full the arrangement.
-pub fn can_end(robots: &[u8], zone: &[u8], goals: &[u8]) -> bool
-    ensures { result ≡ ring_can_end (arrangement_of (on_vertices robots.now) zone.now) (arrangement_of (on_vertices goals.now) zone.now) }
+pub fn can_end(state: &State, zone: &[u8], goals: &State) -> bool
+    ensures { result ≡ ring_can_end (arrangement_of state.now zone.now) (arrangement_of goals.now zone.now) }
 {
-    if is_full(robots, zone) {
-        return same_cells(robots, goals, zone);
+    if is_full(state, zone) {
+        return same_cells(state, goals, zone);
     }
-    same_turned(robots, goals, zone)
+    same_turned(state, goals, zone)
 }

@@ -8,7 +8,6 @@ use Rattle.spec.specs.Ring.{wrap, frame, in_ring, run, shove, push, opened, ring
 use Rattle.spec.specs.State.{State, cell_of, robot_on, arrangement_of, across_move, across}
 use Rattle.theory.specs.Maps.Cells.{cell_of_lem, cell_none, cell_empty}
 use Rattle.theory.specs.Zones.Ring.Opened.{length_opened}
-use Rattle.motion.specs.Tables.{on_vertices}
 use Rattle.motion.specs.World.{World, made, made_all, made_one}
 use Rattle.motion.specs.Across.{across_cons, across_nil, across_move_lem, arrangement_length, arrangement_at}
 use Rattle.cells.specs.Cells.{seek_same, seek_other}
@@ -305,9 +304,9 @@ module _ (a : Arrangement) (j named p : ℕ) (l : p < length a) (e : p ≡ turn_
 
 -- the same for the robots of a ring
 pub turn_next : (w u : World) (vs : List ℕ) (j named p q : ℕ) → Listed (length w.state.robots) vs → j < length vs → p < length vs
-    → p ≡ turn_at (arrangement_of (on_vertices w.state.robots) vs) j named → goes_on (arrangement_of (on_vertices w.state.robots) vs) j p ≡ true
-    → q ≡ next_place (length vs) p → u ≡ made_all w (across vs (push (arrangement_of (on_vertices w.state.robots) vs) p))
-    → q ≡ turn_at (arrangement_of (on_vertices u.state.robots) vs) j named
+    → p ≡ turn_at (arrangement_of w.state vs) j named → goes_on (arrangement_of w.state vs) j p ≡ true
+    → q ≡ next_place (length vs) p → u ≡ made_all w (across vs (push (arrangement_of w.state vs) p))
+    → q ≡ turn_at (arrangement_of u.state vs) j named
 unfolding arrangement_of
 turn_next w u vs j named p q L h l e g d k =
     let s : State = w.state in

@@ -11,7 +11,6 @@ use Rattle.theory.specs.Maps.Cells.{cell_of_lem, cell_none}
 use Rattle.theory.specs.Zones.Arrangements.{order_append, member→cell, cell_inside}
 use Rattle.theory.specs.Basics.Searches.{seek_ok}
 use Rattle.theory.specs.Zones.Ring.Opened.{length_opened}
-use Rattle.motion.specs.Tables.{on_vertices}
 use Rattle.motion.specs.World.{World, made_all, made_none}
 use Rattle.motion.specs.Across.{made_both, across_nil, arrangement_length, arrangement_at}
 use Rattle.motion.specs.Coupling.{Listed, arranged}
@@ -162,9 +161,9 @@ turn_more (suc n) a b j named p h e q d = go (entry_open a j named) refl
 
 -- one push, then the rest
 pub turn_step : (w u : World) (vs : List ℕ) (j named p n : ℕ) → Listed (length w.state.robots) vs → p < length vs → 0 < n
-    → p ≡ turn_at (arrangement_of (on_vertices w.state.robots) vs) j named → u ≡ made_all w (across vs (push (arrangement_of (on_vertices w.state.robots) vs) p))
-    → made_all u (across vs (turn_for (n - 1) (arrangement_of (on_vertices u.state.robots) vs) j named))
-    ≡ made_all w (across vs (turn_for n (arrangement_of (on_vertices w.state.robots) vs) j named))
+    → p ≡ turn_at (arrangement_of w.state vs) j named → u ≡ made_all w (across vs (push (arrangement_of w.state vs) p))
+    → made_all u (across vs (turn_for (n - 1) (arrangement_of u.state vs) j named))
+    ≡ made_all w (across vs (turn_for n (arrangement_of w.state vs) j named))
 unfolding arrangement_of
 turn_step w u vs j named p n M h z d k =
     made_both w u vs (push (arrangement_of w.state vs) p) (turn_for (n - 1) (arrangement_of u.state vs) j named) k

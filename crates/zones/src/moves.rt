@@ -3,19 +3,18 @@ ghost use Rattle.std.specs.Prelude.{◌≡◌, true, ◌≤◌, ◌<◌, length}
 ghost use Rattle.spec.specs.State.{arrangement_of, across};
 ghost use Rattle.spec.specs.ZoneKind.{can_leave, can_end};
 ghost use Rattle.theory.specs.Zones.Crossing.{Proper, extra_of};
-ghost use Rattle.motion.specs.Tables.{on_vertices};
-ghost use Rattle.motion.specs.World.{world_in, made_all};
+ghost use Rattle.motion.specs.World.{world, made_all};
 ghost use Rattle.motion.specs.Coupling.{Listed};
 ghost use Rattle.clique.specs.Entering.{Numbered};
 ghost use Rattle.walking.specs.Kinds.{leave_moves, enter_moves, end_moves};
 
+use motion::State;
 use numbering::Robot;
 
 // The moves that bring robot r, which can leave there, to place j.
 pub fn leave(
     kind: u8,
-    robots: &mut [u8],
-    vertices: &mut [u8],
+    state: &mut State,
     count: usize,
     zone: &[u8],
     r: Robot,
@@ -23,22 +22,21 @@ pub fn leave(
     out: &mut [u8],
 ) -> usize
     requires zone_len_bound { (length zone.now ≤ 128) × (j < length zone.now) }
-    requires listed { Listed (length robots.old) zone.now }
-    requires j_value { can_leave kind (arrangement_of (on_vertices robots.old) zone.now) r.0 j ≡ true }
-    ensures { world_in robots.new vertices.new result out.new ≡ made_all (world_in robots.old vertices.old count out.old) (across zone.now (leave_moves kind (arrangement_of (on_vertices robots.old) zone.now) r.0 j)) }
+    requires listed { Listed (length state.old.robots) zone.now }
+    requires j_value { can_leave kind (arrangement_of state.old zone.now) r.0 j ≡ true }
+    ensures { world state.new result out.new ≡ made_all (world state.old count out.old) (across zone.now (leave_moves kind (arrangement_of state.old zone.now) r.0 j)) }
 {
     match kind {
-        3 => vacating::leave(robots, vertices, count, zone, r, j, out),
-        4 => ring::leave(robots, vertices, count, zone, r, j, out),
-        _ => hall::leave(robots, vertices, count, zone, r, j, out),
+        3 => vacating::leave(state, count, zone, r, j, out),
+        4 => ring::leave(state, count, zone, r, j, out),
+        _ => hall::leave(state, count, zone, r, j, out),
     }
 }
 
 // The moves that make room at place j for whoever enters there.
 pub fn enter(
     kind: u8,
-    robots: &mut [u8],
-    vertices: &mut [u8],
+    state: &mut State,
     count: usize,
     zone: &[u8],
     j: usize,
@@ -47,38 +45,37 @@ pub fn enter(
     out: &mut [u8],
 ) -> usize
     requires zone_len_bound { (length zone.now ≤ 128) × (j < length zone.now) × (length list.now ≤ 128) }
-    requires listed { Listed (length robots.old) zone.now }
+    requires listed { Listed (length state.old.robots) zone.now }
     requires numbered { Numbered list.now j }
-    requires proper { Proper (arrangement_of (on_vertices robots.old) zone.now) }
-    requires list_len { length list.now ≡ extra_of kind (arrangement_of (on_vertices robots.old) zone.now) }
-    ensures { world_in robots.new vertices.new result out.new ≡ made_all (world_in robots.old vertices.old count out.old) (across zone.now (enter_moves kind (arrangement_of (on_vertices robots.old) zone.now) j behind list.now)) }
+    requires proper { Proper (arrangement_of state.old zone.now) }
+    requires list_len { length list.now ≡ extra_of kind (arrangement_of state.old zone.now) }
+    ensures { world state.new result out.new ≡ made_all (world state.old count out.old) (across zone.now (enter_moves kind (arrangement_of state.old zone.now) j behind list.now)) }
 {
     match kind {
-        3 => clique::enter(robots, vertices, count, zone, j, list, out),
-        4 => ring::enter(robots, vertices, count, zone, j, behind, out),
-        _ => hall::enter(robots, vertices, count, zone, j, behind, out),
+        3 => clique::enter(state, count, zone, j, list, out),
+        4 => ring::enter(state, count, zone, j, behind, out),
+        _ => hall::enter(state, count, zone, j, behind, out),
     }
 }
 
 // The moves that bring the robots to their goals, which can be reached.
 pub fn bring_to_goals(
     kind: u8,
-    robots: &mut [u8],
-    vertices: &mut [u8],
+    state: &mut State,
     count: usize,
     zone: &[u8],
-    goals: &[u8],
+    goals: &State,
     out: &mut [u8],
 ) -> usize
     requires zone_len_bound { length zone.now ≤ 128 }
-    requires listed { Listed (length robots.old) zone.now }
-    requires zone_value { can_end kind (arrangement_of (on_vertices robots.old) zone.now) (arrangement_of (on_vertices goals.now) zone.now) ≡ true }
-    requires proper { Proper (arrangement_of (on_vertices robots.old) zone.now) }
-    ensures { world_in robots.new vertices.new result out.new ≡ made_all (world_in robots.old vertices.old count out.old) (across zone.now (end_moves kind (arrangement_of (on_vertices robots.old) zone.now) (arrangement_of (on_vertices goals.now) zone.now))) }
+    requires listed { Listed (length state.old.robots) zone.now }
+    requires zone_value { can_end kind (arrangement_of state.old zone.now) (arrangement_of goals.now zone.now) ≡ true }
+    requires proper { Proper (arrangement_of state.old zone.now) }
+    ensures { world state.new result out.new ≡ made_all (world state.old count out.old) (across zone.now (end_moves kind (arrangement_of state.old zone.now) (arrangement_of goals.now zone.now))) }
 {
     match kind {
-        3 => clique::bring_to_goals(robots, vertices, count, zone, goals, out),
-        4 => ring::end(robots, vertices, count, zone, goals, out),
-        _ => hall::end(robots, vertices, count, zone, goals, out),
+        3 => clique::bring_to_goals(state, count, zone, goals, out),
+        4 => ring::end(state, count, zone, goals, out),
+        _ => hall::end(state, count, zone, goals, out),
     }
 }

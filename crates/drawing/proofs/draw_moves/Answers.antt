@@ -3,7 +3,6 @@ use mathlib.Core.Path.{◌≡◌, refl, ap}
 use Prim.Native.Nat.{◌+◌, ◌*◌}
 use Rattle.spec.specs.State.{State}
 use Rattle.motion.specs.States.{moved_by}
-use Rattle.motion.specs.Tables.{tabled}
 use Rattle.replay.specs.Moves.{file_bytes, three_move, three_bytes, three_move_lem, lent_tables}
 use Rattle.drawing.specs.Drawn.{lent_held, drawing_first, drawing_next, all_drawn}
 use native.Mathlib.Omega.{arith}
@@ -44,7 +43,7 @@ loop-i-preserved c = (
       let o = c.loop-i in
       let x = c.three_from-x in
       let t = x.ensures (2 + o.i * 3) o.invariant.3 in
-      drawing_next m (file_bytes a.file.now) _ _ _ o.i (moved_by (tabled o.robots o.vertices) (three_move o.last)) _ _ _ _ _ _ (o.invariant.7 f n z m h g en) c.loop-i-test.true
+      drawing_next m (file_bytes a.file.now) _ _ _ o.i (moved_by o.state (three_move o.last)) _ _ _ _ _ _ (o.invariant.7 f n z m h g en) c.loop-i-test.true
       (three_move_lem a.file.now o.i x.result t)
       (ap (λ (t : State). moved_by t (three_move x.result)) c.next_step-d.ensures.vertices_after)
       (c.next_step-d.ensures.move_drawn f n z m h (rw (three_bytes a.file.now o.i x.result t).2 (en o.i c.loop-i-test.true)) g),

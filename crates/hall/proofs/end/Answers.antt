@@ -5,8 +5,7 @@ use mathlib.Core.Path.{ap, ◌∙◌}
 use mathlib.Core.List.{List}
 use Rattle.spec.specs.Arrangement.{Move}
 use Rattle.spec.specs.State.{arrangement_of, across}
-use Rattle.motion.specs.Tables.{on_vertices}
-use Rattle.motion.specs.World.{world_in, made_all}
+use Rattle.motion.specs.World.{world, made_all}
 use Rattle.motion.specs.Across.{arrangement_length}
 use Rattle.hall.specs.Ends.{end_is}
 use Rattle.hall.proofs.end.Goals as goal
@@ -16,9 +15,9 @@ settle-requires c =
     let a = c.args in
     let l = c.line_up-n in
     let m = c.line_up-m in
-    let e = c.least.ensures in
-    let x : l.result ≤ 128 = omega (arith, l.ensures.short, arrangement_length (on_vertices a.robots.now) a.zone.now, c.requires) in
-    let y : m.result ≤ 128 = omega (arith, m.ensures.short, arrangement_length (on_vertices a.goals.now) a.zone.now, c.requires) in
+    let e = c.min.ensures in
+    let x : l.result ≤ 128 = omega (arith, l.ensures.short, arrangement_length a.state.now a.zone.now, c.requires) in
+    let y : m.result ≤ 128 = omega (arith, m.ensures.short, arrangement_length a.goals.now a.zone.now, c.requires) in
     (search rules, search rules, search rules)
 
 pub returns : goal.returns
@@ -28,8 +27,8 @@ returns c =
     let l = c.line_up-n in
     let m = c.line_up-m in
     c.settle.ensures
-    ∙ ap (λ (ms : List Move). made_all (world_in a.robots.now a.vertices.now a.count a.out.now) (across z ms))
-    (end_is (arrangement_of (on_vertices a.robots.now) z) (arrangement_of (on_vertices a.goals.now) z) l.result m.result _ _ _ _ _
-    (omega (arith, l.ensures.short, arrangement_length (on_vertices a.robots.now) z, c.requires))
-    (omega (arith, m.ensures.short, arrangement_length (on_vertices a.goals.now) z, c.requires))
-    c.least.ensures l.ensures m.ensures)
+    ∙ ap (λ (ms : List Move). made_all (world a.state.now a.count a.out.now) (across z ms))
+    (end_is (arrangement_of a.state.now z) (arrangement_of a.goals.now z) l.result m.result _ _ _ _ _
+    (omega (arith, l.ensures.short, arrangement_length a.state.now z, c.requires))
+    (omega (arith, m.ensures.short, arrangement_length a.goals.now z, c.requires))
+    c.min.ensures l.ensures m.ensures)

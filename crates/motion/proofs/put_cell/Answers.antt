@@ -3,4 +3,4 @@ use lib.Seq.{set_out}
 use Rattle.motion.proofs.put_cell.Goals as goal
 
 pub returns-else-i-cells : goal.returns-else-i-cells
-returns-else-i-cells c = sym (set_out _ _ _ c.if-i-cells.false)
+returns-else-i-cells g c = sym (set_out _ _ _ c.if-i-cells.false)

@@ -6,4 +6,4 @@ pub returns-then-i-j : goal.returns-then-i-j
 returns-then-i-j c = (seated_here _ _ _ _ _ c.if-i-j.true, search rules)
 
 pub returns : goal.returns
-returns c = (seated_there _ _ _ _ _ _ c.if-i-j.false c.robot_in.ensures, search rules)
+returns c = (seated_there _ _ _ _ _ _ c.if-i-j.false c.robot_on.ensures, search rules)

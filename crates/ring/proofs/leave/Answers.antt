@@ -2,8 +2,7 @@ use borrow.Author.Rules.{rules}
 use native.Mathlib.Omega.{arith}
 use mathlib.Core.Path.{ap, ◌∙◌}
 use Rattle.spec.specs.State.{arrangement_of, across}
-use Rattle.motion.specs.Tables.{on_vertices}
-use Rattle.motion.specs.World.{world_in, made_all}
+use Rattle.motion.specs.World.{world, made_all}
 use Rattle.motion.specs.Across.{arrangement_length}
 use Rattle.circle.specs.Pushes.{leaves_to}
 use Rattle.circle.specs.Reading.{leave_inside}
@@ -12,11 +11,11 @@ use Rattle.ring.proofs.leave.Goals as goal
 pub push_to-requires : goal.push_to-requires
 push_to-requires c =
     let a = c.args in
-    let s = on_vertices a.robots.now in
+    let s = a.state.now in
     record { j_in_bounds = search rules; listed = c.requires.listed; zone_in_bounds = omega (arith, leave_inside (arrangement_of s a.zone.now) a.r.0 a.j c.requires.j_value, arrangement_length s a.zone.now) }
 
 pub returns : goal.returns
 returns c =
     let a = c.args in
     c.push_to.ensures
-    ∙ ap (λ ms. made_all (world_in a.robots.now a.vertices.now a.count a.out.now) (across a.zone.now ms)) (leaves_to (arrangement_of (on_vertices a.robots.now) a.zone.now) a.r.0 a.j)
+    ∙ ap (λ ms. made_all (world a.state.now a.count a.out.now) (across a.zone.now ms)) (leaves_to (arrangement_of a.state.now a.zone.now) a.r.0 a.j)

@@ -6,7 +6,7 @@ pub least-n-requires : goal.least-n-requires
 least-n-requires c = tt
 
 pub returns-then-n-from : goal.returns-then-n-from
-returns-then-n-from c = open_end c.args.cells.now c.args.goal.now c.args.from (omega (arith, c.least-n.ensures))
+returns-then-n-from c = open_end c.args.cells.now c.args.goal.now c.args.from (omega (arith, c.min-n.ensures))
 
 pub bounds-cells-from : goal.bounds-cells-from
 bounds-cells-from c = omega arith
@@ -21,7 +21,7 @@ pub returns-then-is_open : goal.returns-then-is_open
 returns-then-is_open c =
     let a = c.args in
     let t = c.is_open.ensures.0 c.if-is_open.true in
-    open_here a.cells.now a.goal.now a.from (omega (arith, c.least-n.ensures)) t.1 t.0
+    open_here a.cells.now a.goal.now a.from (omega (arith, c.min-n.ensures)) t.1 t.0
 
 pub seek_open-requires : goal.seek_open-requires
 seek_open-requires c = tt

@@ -6,7 +6,7 @@ pub least-n-requires : goal.least-n-requires
 least-n-requires c = tt
 
 pub loop-i-init : goal.loop-i-init
-loop-i-init c = (c.least-n.ensures, refl)
+loop-i-init c = (c.min-n.ensures, refl)
 
 pub bounds-cells-i : goal.bounds-cells-i
 bounds-cells-i c = omega arith

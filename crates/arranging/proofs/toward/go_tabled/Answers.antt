@@ -1,7 +1,7 @@
 use Rattle.std.proofs.Common.{◌≡◌, ◌-◌, ◌<◌, length, sym, refl, ◌∙◌, arith, rules}
 use Rattle.spec.specs.Arrangement.{mv}
 use Rattle.theory.specs.Basics.Searches.{seek_le}
-use Rattle.motion.specs.World.{world_in}
+use Rattle.motion.specs.World.{world}
 use Rattle.motion.specs.Across.{made_more, made_nothing}
 use Rattle.spec.specs.Clique.{open_target}
 use Rattle.tabling.specs.Table.{tabled_at, tabled_moved, seek_empty}
@@ -55,9 +55,9 @@ loop-left-preserved-then-q-cells c =
       search rules,
       search rules,
       search rules,
-      open_taken o.cells _ g (x - 1) i q c.least-from.result here h l (omega (arith, c.least-from.ensures)) (omega (arith, c.least-from.ensures)) e,
+      open_taken o.cells _ g (x - 1) i q c.min-from.result here h l (omega (arith, c.min-from.ensures)) (omega (arith, c.min-from.ensures)) e,
       tabled_moved o.table _ o.cells _ x i q o.invariant.6 z.1 t.2 s z.0 (omega (arith, h)) t.1 e,
-      made_more (world_in o.robots o.vertices o.count o.out) _ a.zone.now (mv (x - 1) i q) _ _ c.go-count.ensures.out_after
+      made_more (world o.state o.count o.out) _ a.zone.now (mv (x - 1) i q) _ _ c.go-count.ensures.out_after
           (to_target o.left o.cells _ g q x i c.loop-left-test.true here h c.cell_at-y.ensures s e)
           ∙ o.invariant.7,
     )
@@ -70,7 +70,7 @@ returns-then-x-eq0 c =
     let a = c.args in
     let o = c.loop-left in
     let here : c.open_target-q.result ≡ open_target o.cells a.goal.now = c.open_target-q.ensures ∙ sym o.invariant.5 in
-    made_nothing (world_in o.robots o.vertices o.count o.out) a.zone.now _
+    made_nothing (world o.state o.count o.out) a.zone.now _
     (to_rest o.left o.cells a.goal.now c.open_target-q.result c.lowest_off-x.result c.loop-left-test.true here c.if-q-cells.false c.lowest_off-x.ensures c.if-x-eq0.true)
     ∙ o.invariant.7
 
@@ -111,7 +111,7 @@ loop-left-preserved c =
       search rules,
       open_moved o.cells _ g (x - 1) i f i (omega (arith, here, h, s, seek_le x o.cells)) (omega arith) e,
       tabled_moved o.table _ o.cells _ x i f o.invariant.6 p t.2 s z.0 z.1 t.1 e,
-      made_more (world_in o.robots o.vertices o.count o.out) _ a.zone.now (mv (x - 1) i f) _ _ c.go-count-else-q-cells.ensures.out_after
+      made_more (world o.state o.count o.out) _ a.zone.now (mv (x - 1) i f) _ _ c.go-count-else-q-cells.ensures.out_after
           (to_room o.left o.cells _ g q x i f c.loop-left-test.true here h c.lowest_off-x.ensures c.if-x-eq0.false s c.first_empty-f.ensures e)
           ∙ o.invariant.7,
     )
@@ -120,4 +120,4 @@ pub returns : goal.returns
 returns c =
     let a = c.args in
     let o = c.loop-left in
-    made_nothing (world_in o.robots o.vertices o.count o.out) a.zone.now _ (to_none o.left o.cells a.goal.now (omega arith)) ∙ o.invariant.7
+    made_nothing (world o.state o.count o.out) a.zone.now _ (to_none o.left o.cells a.goal.now (omega arith)) ∙ o.invariant.7

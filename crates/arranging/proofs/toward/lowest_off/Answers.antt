@@ -9,7 +9,7 @@ pub least-k-requires : goal.least-k-requires
 least-k-requires c = tt
 
 pub loop-k-init : goal.loop-k-init
-loop-k-init c = (search rules, cell_none refl ∙ off_end c.args.cells.now c.args.goal.now c.least-k.result (omega (arith, c.least-k.ensures)))
+loop-k-init c = (search rules, cell_none refl ∙ off_end c.args.cells.now c.args.goal.now c.min-k.result (omega (arith, c.min-k.ensures)))
 
 pub overflow_sub-k : goal.overflow_sub-k
 overflow_sub-k c = omega arith

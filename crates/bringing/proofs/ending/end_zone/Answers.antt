@@ -1,9 +1,8 @@
 use Rattle.walking.specs.Given.{part}
 use Rattle.walking.specs.Kinds.{end_moves}
 use Rattle.spec.specs.State.{across}
-use Rattle.motion.specs.World.{world_in, made_all}
+use Rattle.motion.specs.World.{world, made_all}
 use Rattle.spec.specs.State.{arrangement_of}
-use Rattle.motion.specs.Tables.{tabled, on_vertices}
 use lib.ListN.{get_or}
 use Prim.Native.Nat.{ℕ}
 use mathlib.Core.List.{List}
@@ -20,4 +19,4 @@ pub returns : goal.returns
 unfolding arrangement_of
 returns c =
     let a = c.args in
-    c.bring_to_goals.ensures ∙ ap (λ (vs : List ℕ). made_all (world_in a.robots.now a.vertices.now a.count a.out.now) (across vs (end_moves (get_or a.kind.now a.z 0) (arrangement_of (tabled a.robots.now a.vertices.now) vs) (arrangement_of (on_vertices a.goals.now) vs)))) (part (get_or a.first.now a.z 0) (get_or a.size.now a.z 0) a.listed.now)
+    c.bring_to_goals.ensures ∙ ap (λ (vs : List ℕ). made_all (world a.state.now a.count a.out.now) (across vs (end_moves (get_or a.kind.now a.z 0) (arrangement_of a.state.now vs) (arrangement_of a.goals.now vs)))) (part (get_or a.first.now a.z 0) (get_or a.size.now a.z 0) a.listed.now)

@@ -2,8 +2,7 @@ use Rattle.walking.specs.Endings.{ending_start, ending_can, ending_next, ending_
 use Rattle.walking.specs.Given.{has_zone, ends_is, end_moves_is}
 use Rattle.theory.specs.Plans.Step.{proper}
 use Rattle.spec.specs.Terms.{zone_count}
-use Rattle.motion.specs.World.{world_in, made_all}
-use Rattle.motion.specs.Tables.{tabled, on_vertices}
+use Rattle.motion.specs.World.{world, made_all}
 use Prim.Native.Nat.{◌<◌}
 use mathlib.Core.Path.{refl, ap, ◌∙◌}
 use borrow.Author.Rules.{rules}
@@ -12,7 +11,7 @@ use Rattle.bringing.proofs.ending.end_zones.Goals as goal
 pub loop-z-init : goal.loop-z-init
 loop-z-init c =
     let a = c.args in
-    (refl, search rules, λ m n k zone place rows d e h p. ending_start m d.accepted k d.few (tabled a.robots.now a.vertices.now) (on_vertices a.goals.now) h p (world_in a.robots.now a.vertices.now a.count a.out.now) refl, refl, refl)
+    (refl, search rules, λ m n k zone place rows d e h p. ending_start m d.accepted k d.few a.state.now a.goals.now h p (world a.state.now a.count a.out.now) refl, refl, refl)
 
 pub end_zone-made-requires : goal.end_zone-made-requires
 end_zone-made-requires c =
@@ -22,10 +21,10 @@ end_zone-made-requires c =
     let g = l.invariant.2 b.map b.n b.k b.zone b.place b.rows b.given b.count b.consistent c.requires.pass in
     let t : l.z < zone_count b.map = rw b.count c.loop-z-test.true in record {
       has_zone = has_zone b.map b.n b.k a.kind.now a.first.now a.size.now a.listed.now b.zone b.place b.rows b.given l.z t;
-      z_value = ends_is b.map b.n b.k a.kind.now a.first.now a.size.now a.listed.now b.zone b.place b.rows b.given l.z t (tabled l.robots l.vertices) (on_vertices a.goals.now)
-          ∙ ending_can b.map b.given.accepted b.k b.given.few (tabled a.robots.now a.vertices.now) (on_vertices a.goals.now) b.consistent c.requires.pass (world_in a.robots.now a.vertices.now a.count a.out.now) l.z (world_in l.robots l.vertices l.made l.out) g t;
+      z_value = ends_is b.map b.n b.k a.kind.now a.first.now a.size.now a.listed.now b.zone b.place b.rows b.given l.z t l.state a.goals.now
+          ∙ ending_can b.map b.given.accepted b.k b.given.few a.state.now a.goals.now b.consistent c.requires.pass (world a.state.now a.count a.out.now) l.z (world l.state l.made l.out) g t;
       robots_len = l.invariant.3 ∙ b.consistent.rooms;
-      proper = rw (← b.given.tables.vertices l.z t) (proper b.map b.given.accepted b.k b.given.few (tabled l.robots l.vertices) g.consistent l.z t);
+      proper = rw (← b.given.tables.vertices l.z t) (proper b.map b.given.accepted b.k b.given.few l.state g.consistent l.z t);
     }
 
 pub loop-z-preserved : goal.loop-z-preserved
@@ -36,8 +35,8 @@ loop-z-preserved c =
       search rules,
       λ m n k zone place rows d e h p.
           let t : l.z < zone_count m = rw e c.loop-z-test.true in
-          ending_next m d.accepted k d.few (tabled a.robots.now a.vertices.now) (on_vertices a.goals.now) h p (world_in a.robots.now a.vertices.now a.count a.out.now) l.z (world_in l.robots l.vertices l.made l.out) (l.invariant.2 m n k zone place rows d e h p) _ t
-          (c.end_zone-made.ensures ∙ ap (made_all (world_in l.robots l.vertices l.made l.out)) (end_moves_is m n k a.kind.now a.first.now a.size.now a.listed.now zone place rows d l.z t (tabled l.robots l.vertices) (on_vertices a.goals.now))),
+          ending_next m d.accepted k d.few a.state.now a.goals.now h p (world a.state.now a.count a.out.now) l.z (world l.state l.made l.out) (l.invariant.2 m n k zone place rows d e h p) _ t
+          (c.end_zone-made.ensures ∙ ap (made_all (world l.state l.made l.out)) (end_moves_is m n k a.kind.now a.first.now a.size.now a.listed.now zone place rows d l.z t l.state a.goals.now)),
       search rules,
       search rules,
     )
@@ -47,4 +46,4 @@ returns c =
     λ m n k zone place rows d e h p.
     let a = c.args in
     let l = c.loop-z in
-    ending_end m d.accepted k d.few (tabled a.robots.now a.vertices.now) (on_vertices a.goals.now) h p (world_in a.robots.now a.vertices.now a.count a.out.now) l.z (world_in l.robots l.vertices l.made l.out) (l.invariant.2 m n k zone place rows d e h p) (rw e c.loop-z-test.false)
+    ending_end m d.accepted k d.few a.state.now a.goals.now h p (world a.state.now a.count a.out.now) l.z (world l.state l.made l.out) (l.invariant.2 m n k zone place rows d e h p) (rw e c.loop-z-test.false)

@@ -6,8 +6,7 @@ use mathlib.Core.Bool.{false}
 use lib.ListN.{length, get_or}
 use Rattle.spec.specs.Ring.{wrap}
 use Rattle.spec.specs.State.{robot_on, across}
-use Rattle.motion.specs.Tables.{on_vertices}
-use Rattle.motion.specs.World.{world_in, made, made_all, made_none}
+use Rattle.motion.specs.World.{world, made, made_all, made_none}
 use Rattle.motion.specs.Across.{across_nil, across_move_lem}
 use Rattle.circle.specs.Places.{previous_place, next_place, beside_back, wrap_in, wrap_under, wrap_next, wrap_previous}
 use Rattle.circle.specs.Runs.{run_at, run_on, run_stops, run_round, run_robot}
@@ -32,7 +31,7 @@ loop-k-preserved c =
     let a = c.args in
     let o = c.loop-k in
     let z = a.zone.now in
-    let s = on_vertices a.robots.now in
+    let s = a.state.now in
     let h : a.p < length z = search rules in
     let l : o.k < length z = omega arith in
     let e : c.robot_on-r.result.0 ≡ robot_on s (get_or z (wrap (length z) (a.p + o.k)) 0) = c.robot_on-r.ensures ∙ ap (robot_on s) (c.vertex_at-v.ensures ∙ ap (λ (i : ℕ). get_or z i 0) o.invariant.2) in (
@@ -48,7 +47,7 @@ loop-k-2-init c =
     let o = c.loop-k in
     let z = a.zone.now in
     let h : a.p < length z = search rules in
-    let s = on_vertices a.robots.now in
+    let s = a.state.now in
     elim c.if-k-m.branch [
       | then-k-m w ↦
           let n : o.k ≡ length (run_at s z a.p) = run_round s z a.p h o.k (omega (arith, w.if-k-m.true)) ∙ o.invariant.3 in
@@ -72,7 +71,7 @@ loop-k-2-preserved c =
     let o = c.loop-k-2 in
     let z = a.zone.now in
     let m = length z in
-    let s = on_vertices a.robots.now in
+    let s = a.state.now in
     let k = o.k - 1 in
     let h : a.p < m = c.requires.p_in_bounds in
     let l : k < m = omega arith in
@@ -84,7 +83,7 @@ loop-k-2-preserved c =
     let e : c.if-last.r.0 ≡ robot_on s (get_or z (wrap m (a.p + k)) 0) =
     elim c.if-last.branch [
       | then-last w ↦ ap (λ (x : Robot). x.0) w.r-is ∙ c.robot_on-first.ensures ∙ ap (robot_on s) (c.vertex_at.ensures ∙ ap (λ (i : ℕ). get_or z i 0) (sym (wrap_in m a.p h) ∙ ap (λ (i : ℕ). wrap m (a.p + i)) (sym w.if-last.true)))
-      | else-last w ↦ ap (λ (x : Robot). x.0) w.r-is ∙ c.robot_on-r-in-loop-k-2.ensures ∙ ap (robot_on (on_vertices o.robots)) v ∙ o.invariant.8.stays k (omega (arith, w.if-last.false)) (omega arith)
+      | else-last w ↦ ap (λ (x : Robot). x.0) w.r-is ∙ c.robot_on-r-in-loop-k-2.ensures ∙ ap (robot_on o.state) v ∙ o.invariant.8.stays k (omega (arith, w.if-last.false)) (omega arith)
     ] in
     let r : c.if-last.r.0 ≡ get_or (run_at s z a.p) k 0 = run_robot s z a.p h k c.if-last.r.0 (omega arith) l e in (
       search rules,
@@ -94,10 +93,10 @@ loop-k-2-preserved c =
       omega arith,
       omega arith,
       d,
-      push_step (world_in a.robots.now a.vertices.now a.count a.out.now) (world_in o.robots o.vertices o.count o.out) _ s z a.p k c.if-last.r.0 c.beside-from.result o.to (omega arith) r d b
-          (o.invariant.7 ∙ ap (λ (i : ℕ). made_all (world_in a.robots.now a.vertices.now a.count a.out.now) (across z (push_from s z a.p i))) i)
-          (c.make-count.ensures ∙ ap (made (world_in o.robots o.vertices o.count o.out)) (across_move_lem z _ c.if-last.r.0 c.beside-from.result o.to _ _ refl c.vertex_at-v-in-loop-k-2.ensures c.vertex_at-w.ensures)),
-      unmoved_behind s (world_in o.robots o.vertices o.count o.out) _ z _ a.p k c.if-last.r.0 _ _ c.requires.listed h l v t c.make-count.ensures (rw (sym i) o.invariant.8),
+      push_step (world a.state.now a.count a.out.now) (world o.state o.count o.out) _ s z a.p k c.if-last.r.0 c.beside-from.result o.to (omega arith) r d b
+          (o.invariant.7 ∙ ap (λ (i : ℕ). made_all (world a.state.now a.count a.out.now) (across z (push_from s z a.p i))) i)
+          (c.make-count.ensures ∙ ap (made (world o.state o.count o.out)) (across_move_lem z _ c.if-last.r.0 c.beside-from.result o.to _ _ refl c.vertex_at-v-in-loop-k-2.ensures c.vertex_at-w.ensures)),
+      unmoved_behind s (world o.state o.count o.out) _ z _ a.p k c.if-last.r.0 _ _ c.requires.listed h l v t c.make-count.ensures (rw (sym i) o.invariant.8),
     )
 
 pub returns : goal.returns
@@ -106,5 +105,5 @@ returns c =
     let o = c.loop-k-2 in
     let z = a.zone.now in
     let e : o.k ≡ 0 = omega arith in
-    o.invariant.7 ∙ ap (λ (k : ℕ). made_all (world_in a.robots.now a.vertices.now a.count a.out.now) (across z (push_from (on_vertices a.robots.now) z a.p k))) e
-    ∙ ap (λ ms. made_all (world_in a.robots.now a.vertices.now a.count a.out.now) (across z ms)) (push_all (on_vertices a.robots.now) z a.p)
+    o.invariant.7 ∙ ap (λ (k : ℕ). made_all (world a.state.now a.count a.out.now) (across z (push_from a.state.now z a.p k))) e
+    ∙ ap (λ ms. made_all (world a.state.now a.count a.out.now) (across z ms)) (push_all a.state.now z a.p)

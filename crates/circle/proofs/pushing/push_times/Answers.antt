@@ -3,7 +3,7 @@ use native.Mathlib.Omega.{arith}
 use Prim.Native.Nat.{◌<◌}
 use mathlib.Core.Path.{refl, ◌∙◌}
 use lib.ListN.{length}
-use Rattle.motion.specs.World.{world_in}
+use Rattle.motion.specs.World.{world}
 use Rattle.motion.specs.Coupling.{Listed}
 use Rattle.circle.specs.Places.{next_under}
 use Rattle.circle.specs.Pushes.{pushes_step, pushes_done}
@@ -20,17 +20,17 @@ loop-left-preserved c =
     let a = c.args in
     let o = c.loop-left in
     let z = a.zone.now in
-    let M : Listed (length o.robots) z = rw o.invariant.0 c.requires.listed in
+    let M : Listed (length o.state.robots) z = rw o.invariant.0 c.requires.listed in
     let h : o.at < length z = o.invariant.3 in (
       search rules,
       search rules,
       search rules,
       omega (arith, next_under (length z) o.at h, c.next-at.ensures),
-      pushes_step (world_in o.robots o.vertices o.count o.out) _ z o.at c.next-at.result o.left M h c.loop-left-test.true c.next-at.ensures c.push-count.ensures ∙ o.invariant.4,
+      pushes_step (world o.state o.count o.out) _ z o.at c.next-at.result o.left M h c.loop-left-test.true c.next-at.ensures c.push-count.ensures ∙ o.invariant.4,
     )
 
 pub returns : goal.returns
 returns c =
     let a = c.args in
     let o = c.loop-left in
-    pushes_done (world_in o.robots o.vertices o.count o.out) a.zone.now _ o.at o.left (omega arith) ∙ o.invariant.4
+    pushes_done (world o.state o.count o.out) a.zone.now _ o.at o.left (omega arith) ∙ o.invariant.4

@@ -3,14 +3,13 @@ use mathlib.Core.Path.{◌≡◌}
 use lib.ListN.{length}
 use Rattle.spec.specs.Ring.{pushes}
 use Rattle.spec.specs.State.{arrangement_of, across}
-use Rattle.motion.specs.Tables.{on_vertices}
-use Rattle.motion.specs.World.{world_in, made_all}
+use Rattle.motion.specs.World.{world, made_all}
 use Rattle.circle.proofs.pushing.push_times.Given as goal
 
 abbrev pub invariant-loop-left : goal.invariant-loop-left
 invariant-loop-left l =
-    (length l.robots ≡ length l.initial.robots) × (length l.vertices ≡ length l.initial.vertices) × (length l.out ≡ length l.initial.out) × (l.at < length l.zone)
-    × (made_all (world_in l.robots l.vertices l.count l.out) (across l.zone (pushes l.left (arrangement_of (on_vertices l.robots) l.zone) l.at)) ≡ made_all (world_in l.initial.robots l.initial.vertices l.count-2 l.initial.out) (across l.zone (pushes l.n (arrangement_of (on_vertices l.initial.robots) l.zone) l.p)))
+    (length l.state.robots ≡ length l.initial.state.robots) × (length l.vertices ≡ length l.initial.vertices) × (length l.out ≡ length l.initial.out) × (l.at < length l.zone)
+    × (made_all (world l.state l.count l.out) (across l.zone (pushes l.left (arrangement_of l.state l.zone) l.at)) ≡ made_all (world l.initial.state l.count-2 l.initial.out) (across l.zone (pushes l.n (arrangement_of l.initial.state l.zone) l.p)))
 
 abbrev pub decreases-loop-left : goal.decreases-loop-left
 decreases-loop-left l = l.left

@@ -4,8 +4,7 @@ use mathlib.Core.List.{List}
 use lib.ListN.{length}
 use Rattle.spec.specs.Arrangement.{Move}
 use Rattle.spec.specs.State.{arrangement_of, across}
-use Rattle.motion.specs.Tables.{on_vertices}
-use Rattle.motion.specs.World.{world_in, made_all}
+use Rattle.motion.specs.World.{world, made_all}
 use Rattle.motion.specs.Across.{arrangement_length}
 use Rattle.cells.specs.Cells.{overlaid_all}
 use Rattle.comparing.specs.Comparing.{end_is}
@@ -27,21 +26,21 @@ pub go_toward-requires : goal.go_toward-requires
 go_toward-requires c =
     let p = c.args in
     let z = p.zone.now in
-    let s = on_vertices p.robots.now in
+    let s = p.state.now in
     let f = c.cells_of.ensures ∙ overlaid_all (arrangement_of s z) p.cells.now (arrangement_length s z ∙ sym c.requires.zone_len_bound.1) in
-    let h = c.cells_of-2.ensures ∙ overlaid_all (arrangement_of (on_vertices p.goals.now) z) p.goal.now (arrangement_length (on_vertices p.goals.now) z ∙ sym c.requires.zone_len_bound.2) in
+    let h = c.cells_of-2.ensures ∙ overlaid_all (arrangement_of p.goals.now z) p.goal.now (arrangement_length p.goals.now z ∙ sym c.requires.zone_len_bound.2) in
     let l = ap length f ∙ arrangement_length s z in
-    (omega (arith, l, c.requires.zone_len_bound.0), ap length h ∙ arrangement_length (on_vertices p.goals.now) z ∙ sym l, distinct_of f c.requires.distinct)
+    (omega (arith, l, c.requires.zone_len_bound.0), ap length h ∙ arrangement_length p.goals.now z ∙ sym l, distinct_of f c.requires.distinct)
 
 pub returns : goal.returns
 returns c =
     let p = c.args in
     let z = p.zone.now in
-    let s = on_vertices p.robots.now in
+    let s = p.state.now in
     let a = arrangement_of s z in
-    let g = arrangement_of (on_vertices p.goals.now) z in
+    let g = arrangement_of p.goals.now z in
     let f = c.cells_of.ensures ∙ overlaid_all a p.cells.now (arrangement_length s z ∙ sym c.requires.zone_len_bound.1) in
-    let h = c.cells_of-2.ensures ∙ overlaid_all g p.goal.now (arrangement_length (on_vertices p.goals.now) z ∙ sym c.requires.zone_len_bound.2) in
+    let h = c.cells_of-2.ensures ∙ overlaid_all g p.goal.now (arrangement_length p.goals.now z ∙ sym c.requires.zone_len_bound.2) in
     c.go_toward.ensures
-    ∙ ap (λ (ms : List Move). made_all (world_in p.robots.now p.vertices.now p.count p.out.now) (across z ms))
+    ∙ ap (λ (ms : List Move). made_all (world p.state.now p.count p.out.now) (across z ms))
     (ap₂ (clique_to (length z * 2)) f h ∙ end_is a g (length z) (sym (arrangement_length s z)))

@@ -1,18 +1,17 @@
 use borrow.Author.Rules.{rules}
 use mathlib.Core.Path.{sym, ◌∙◌}
 use Rattle.spec.specs.State.{arrangement_of}
-use Rattle.motion.specs.Tables.{on_vertices}
 use Rattle.clique.specs.Entering.{enter_behind, enter_free, enter_unnamed, enter_named}
 use Rattle.clique.proofs.entering.can_enter.Goals as goal
 
 pub returns-then-behind_named : goal.returns-then-behind_named
-returns-then-behind_named c = enter_behind (arrangement_of (on_vertices c.args.robots.now) c.args.zone.now) c.args.r.0 c.args.j c.args.behind c.args.list.now (search rules)
+returns-then-behind_named c = enter_behind (arrangement_of c.args.state.now c.args.zone.now) c.args.r.0 c.args.j c.args.behind c.args.list.now (search rules)
 
 pub returns-then-here : goal.returns-then-here
-returns-then-here c = c.names_inside.ensures ∙ enter_named (arrangement_of (on_vertices c.args.robots.now) c.args.zone.now) c.args.r.0 c.args.j c.args.behind c.args.list.now (search rules) (sym c.if-last.true ∙ c.last_free-last.ensures) (sym c.if-here.true ∙ c.names_at-here.ensures)
+returns-then-here c = c.names_inside.ensures ∙ enter_named (arrangement_of c.args.state.now c.args.zone.now) c.args.r.0 c.args.j c.args.behind c.args.list.now (search rules) (sym c.if-last.true ∙ c.last_free-last.ensures) (sym c.if-here.true ∙ c.names_at-here.ensures)
 
 pub returns-then-last : goal.returns-then-last
-returns-then-last c = enter_unnamed (arrangement_of (on_vertices c.args.robots.now) c.args.zone.now) c.args.r.0 c.args.j c.args.behind c.args.list.now (search rules) (sym c.if-last.true ∙ c.last_free-last.ensures) (sym c.if-here.false ∙ c.names_at-here.ensures)
+returns-then-last c = enter_unnamed (arrangement_of c.args.state.now c.args.zone.now) c.args.r.0 c.args.j c.args.behind c.args.list.now (search rules) (sym c.if-last.true ∙ c.last_free-last.ensures) (sym c.if-here.false ∙ c.names_at-here.ensures)
 
 pub returns : goal.returns
-returns c = enter_free (arrangement_of (on_vertices c.args.robots.now) c.args.zone.now) c.args.r.0 c.args.j c.args.behind c.args.list.now (search rules) (sym c.if-last.false ∙ c.last_free-last.ensures)
+returns c = enter_free (arrangement_of c.args.state.now c.args.zone.now) c.args.r.0 c.args.j c.args.behind c.args.list.now (search rules) (sym c.if-last.false ∙ c.last_free-last.ensures)

@@ -3,8 +3,7 @@ use mathlib.Core.List.{List}
 use lib.ListN.{length}
 use Rattle.spec.specs.Arrangement.{Move}
 use Rattle.spec.specs.State.{arrangement_of, across}
-use Rattle.motion.specs.Tables.{on_vertices}
-use Rattle.motion.specs.World.{world_in, made_all}
+use Rattle.motion.specs.World.{world, made_all}
 use Rattle.motion.specs.Across.{arrangement_length}
 use Rattle.clique.specs.Entering.{enter_room, enter_fill, extra_fill, extra_room}
 use Rattle.clique.proofs.entering.enter.Goals as goal
@@ -12,7 +11,7 @@ use Rattle.clique.proofs.entering.enter.Goals as goal
 pub fill-requires : goal.fill-requires
 fill-requires c =
     let p = c.args in
-    let s = on_vertices p.robots.now in
+    let s = p.state.now in
     let f = extra_fill (arrangement_of s p.zone.now) (length p.list.now) c.requires.zone_len_bound.1 c.if-list-gt0.true in
     record { zone_len_bound = (c.requires.zone_len_bound.0, f.1 ∙ arrangement_length s p.zone.now, c.requires.zone_len_bound.2); distinct = c.requires.distinct }
 
@@ -20,9 +19,9 @@ pub returns-then-list-gt0 : goal.returns-then-list-gt0
 returns-then-list-gt0 c =
     let p = c.args in
     let z = p.zone.now in
-    let s = on_vertices p.robots.now in
+    let s = p.state.now in
     c.fill.ensures
-    ∙ ap (λ (ms : List Move). made_all (world_in p.robots.now p.vertices.now p.count p.out.now) (across z ms))
+    ∙ ap (λ (ms : List Move). made_all (world p.state.now p.count p.out.now) (across z ms))
     (enter_fill (arrangement_of s z) 0 p.j 0 p.list.now (length z) (extra_fill (arrangement_of s z) (length p.list.now) c.requires.zone_len_bound.1 c.if-list-gt0.true).0 (sym (arrangement_length s z)))
 
 pub make_room-requires : goal.make_room-requires
@@ -32,7 +31,7 @@ pub returns : goal.returns
 returns c =
     let p = c.args in
     let z = p.zone.now in
-    let s = on_vertices p.robots.now in
+    let s = p.state.now in
     c.make_room.ensures
-    ∙ ap (λ (ms : List Move). made_all (world_in p.robots.now p.vertices.now p.count p.out.now) (across z ms))
+    ∙ ap (λ (ms : List Move). made_all (world p.state.now p.count p.out.now) (across z ms))
     (enter_room (arrangement_of s z) 0 p.j 0 p.list.now (extra_room (arrangement_of s z) (length p.list.now) c.requires.zone_len_bound.1 c.if-list-gt0.false))

@@ -6,8 +6,7 @@ use mathlib.Core.List.{List}
 use lib.ListN.{length}
 use Rattle.spec.specs.Arrangement.{Move}
 use Rattle.spec.specs.State.{arrangement_of, across}
-use Rattle.motion.specs.Tables.{on_vertices}
-use Rattle.motion.specs.World.{world_in, made_all}
+use Rattle.motion.specs.World.{world, made_all}
 use Rattle.motion.specs.Across.{arrangement_length}
 use Rattle.cells.specs.Cells.{overlaid_all}
 use Rattle.clique.specs.Entering.{named_cells, cells_named, filled_still}
@@ -20,17 +19,17 @@ pub returns : goal.returns
 returns c =
     let p = c.args in
     let z = p.zone.now in
-    let s = on_vertices p.robots.now in
+    let s = p.state.now in
     let f = c.cells_of.ensures ∙ overlaid_all (arrangement_of s z) p.cells.now (arrangement_length s z ∙ sym c.requires.zone_len_bound.1) in
     let h = c.goal_cells.ensures ∙ named_cells p.list.now p.j c.requires.zone_len_bound.4 in
     let q : c.same_cells-there.result ≡ true = search rules in
-    filled_still (length z * 2) _ _ _ _ z (world_in p.robots.now p.vertices.now p.count p.out.now) _ f h q c.same_cells-there.ensures
+    filled_still (length z * 2) _ _ _ _ z (world p.state.now p.count p.out.now) _ f h q c.same_cells-there.ensures
 
 pub go_toward-requires : goal.go_toward-requires
 go_toward-requires c =
     let p = c.args in
     let z = p.zone.now in
-    let s = on_vertices p.robots.now in
+    let s = p.state.now in
     let f = c.cells_of.ensures ∙ overlaid_all (arrangement_of s z) p.cells.now (arrangement_length s z ∙ sym c.requires.zone_len_bound.1) in
     let l = ap length f ∙ arrangement_length s z in
     let m = ap length c.goal_cells.ensures ∙ cells_named p.list.now p.j in
@@ -40,7 +39,7 @@ pub returns-then-moves : goal.returns-then-moves
 returns-then-moves c =
     let p = c.args in
     let z = p.zone.now in
-    let s = on_vertices p.robots.now in
+    let s = p.state.now in
     let f = c.cells_of.ensures ∙ overlaid_all (arrangement_of s z) p.cells.now (arrangement_length s z ∙ sym c.requires.zone_len_bound.1) in
     let h = c.goal_cells.ensures ∙ named_cells p.list.now p.j c.requires.zone_len_bound.4 in
-    c.go_toward.ensures ∙ ap (λ (ms : List Move). made_all (world_in p.robots.now p.vertices.now p.count p.out.now) (across z ms)) (ap₂ (clique_to (length z * 2)) f h)
+    c.go_toward.ensures ∙ ap (λ (ms : List Move). made_all (world p.state.now p.count p.out.now) (across z ms)) (ap₂ (clique_to (length z * 2)) f h)

@@ -9,7 +9,7 @@ use Rattle.cells.specs.Cells.{overlaid_step, overlaid_end}
 use Rattle.clique.proofs.entering.list_cells.Goals as goal
 
 pub loop-k-init : goal.loop-k-init
-loop-k-init c = (search rules, c.least-n.ensures, refl, refl)
+loop-k-init c = (search rules, c.min-n.ensures, refl, refl)
 
 pub loop-k-preserved : goal.loop-k-preserved
 loop-k-preserved c = let a = c.args in

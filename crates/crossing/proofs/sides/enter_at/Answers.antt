@@ -2,9 +2,8 @@ use Rattle.walking.specs.Held.{held_part}
 use Rattle.walking.specs.Given.{part, kind_at, vertices_at}
 use Rattle.comparing.specs.Comparing.{cells_length}
 use Rattle.walking.specs.Kinds.{enter_moves}
-use Rattle.motion.specs.World.{world_in, made_all}
+use Rattle.motion.specs.World.{world, made_all}
 use Rattle.spec.specs.State.{arrangement_of, across}
-use Rattle.motion.specs.Tables.{tabled}
 use lib.ListN.{length, get_or, take, replicate}
 use native.Mathlib.Omega.{arith}
 use Prim.Native.Nat.{ℕ, ◌+◌}
@@ -25,8 +24,8 @@ returns-then-n-eq0 c =
     let a = c.args in
     let z : ℕ = get_or a.zone.now a.v 0 in
     c.enter_room.ensures
-    ∙ ap (λ (vs : List ℕ). made_all (world_in a.robots.now a.vertices.now a.count a.out.now) (across vs (enter_moves (kind_at a.kind.now a.zone.now a.v) (arrangement_of (tabled a.robots.now a.vertices.now) vs) (get_or a.place.now a.v 0) a.behind []))) (part (get_or a.first.now z 0) (get_or a.size.now z 0) a.listed.now)
-    ∙ ap (λ (y : ℕ). made_all (world_in a.robots.now a.vertices.now a.count a.out.now) (across (vertices_at a.first.now a.size.now a.listed.now a.zone.now a.v) (enter_moves (kind_at a.kind.now a.zone.now a.v) (arrangement_of (tabled a.robots.now a.vertices.now) (vertices_at a.first.now a.size.now a.listed.now a.zone.now a.v)) (get_or a.place.now a.v 0) a.behind (held_part a.file.now (a.from + y) a.from y)))) (sym c.if-n-eq0.true)
+    ∙ ap (λ (vs : List ℕ). made_all (world a.state.now a.count a.out.now) (across vs (enter_moves (kind_at a.kind.now a.zone.now a.v) (arrangement_of a.state.now vs) (get_or a.place.now a.v 0) a.behind []))) (part (get_or a.first.now z 0) (get_or a.size.now z 0) a.listed.now)
+    ∙ ap (λ (y : ℕ). made_all (world a.state.now a.count a.out.now) (across (vertices_at a.first.now a.size.now a.listed.now a.zone.now a.v) (enter_moves (kind_at a.kind.now a.zone.now a.v) (arrangement_of a.state.now (vertices_at a.first.now a.size.now a.listed.now a.zone.now a.v)) (get_or a.place.now a.v 0) a.behind (held_part a.file.now (a.from + y) a.from y)))) (sym c.if-n-eq0.true)
 
 pub slice_bounds-enter_in-end-2 : goal.slice_bounds-enter_in-end-2
 slice_bounds-enter_in-end-2 c =
@@ -47,5 +46,5 @@ returns c =
     let z : ℕ = get_or a.zone.now a.v 0 in
     let x : length {A = ℕ} (take a.n (replicate 128 0)) ≡ a.n = cells_length a.n c.requires.n_bound.0 in
     c.enter_in.ensures
-    ∙ ap (λ (vs : List ℕ). made_all (world_in a.robots.now a.vertices.now a.count a.out.now) (across vs (enter_moves (kind_at a.kind.now a.zone.now a.v) (arrangement_of (tabled a.robots.now a.vertices.now) vs) (get_or a.place.now a.v 0) a.behind (held_part a.file.now (a.from + length {A = ℕ} (take a.n (replicate 128 0))) a.from (length {A = ℕ} (take a.n (replicate 128 0))))))) (part (get_or a.first.now z 0) (get_or a.size.now z 0) a.listed.now)
-    ∙ ap (λ (y : ℕ). made_all (world_in a.robots.now a.vertices.now a.count a.out.now) (across (vertices_at a.first.now a.size.now a.listed.now a.zone.now a.v) (enter_moves (kind_at a.kind.now a.zone.now a.v) (arrangement_of (tabled a.robots.now a.vertices.now) (vertices_at a.first.now a.size.now a.listed.now a.zone.now a.v)) (get_or a.place.now a.v 0) a.behind (held_part a.file.now (a.from + y) a.from y)))) x
+    ∙ ap (λ (vs : List ℕ). made_all (world a.state.now a.count a.out.now) (across vs (enter_moves (kind_at a.kind.now a.zone.now a.v) (arrangement_of a.state.now vs) (get_or a.place.now a.v 0) a.behind (held_part a.file.now (a.from + length {A = ℕ} (take a.n (replicate 128 0))) a.from (length {A = ℕ} (take a.n (replicate 128 0))))))) (part (get_or a.first.now z 0) (get_or a.size.now z 0) a.listed.now)
+    ∙ ap (λ (y : ℕ). made_all (world a.state.now a.count a.out.now) (across (vertices_at a.first.now a.size.now a.listed.now a.zone.now a.v) (enter_moves (kind_at a.kind.now a.zone.now a.v) (arrangement_of a.state.now (vertices_at a.first.now a.size.now a.listed.now a.zone.now a.v)) (get_or a.place.now a.v 0) a.behind (held_part a.file.now (a.from + y) a.from y)))) x

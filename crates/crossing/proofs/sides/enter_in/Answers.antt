@@ -1,9 +1,8 @@
 use native.Mathlib.Nat.{le_refl}
 use Rattle.walking.specs.Kinds.{enter_moves}
-use Rattle.motion.specs.World.{world_in, made_all}
+use Rattle.motion.specs.World.{world, made_all}
 use Rattle.spec.specs.State.{across}
 use Rattle.spec.specs.State.{arrangement_of}
-use Rattle.motion.specs.Tables.{tabled}
 use lib.ListN.{length}
 use Prim.Native.Nat.{ℕ, ◌+◌}
 use mathlib.Core.List.{List}
@@ -24,4 +23,4 @@ returns c =
     let a = c.args in
     let e = c.copy_list.ensures (a.from + length a.list.now) c.requires.zone_len_bound.3 (le_refl _) in
     c.enter.ensures
-    ∙ ap (λ (l : List ℕ). made_all (world_in a.robots.now a.vertices.now a.count a.out.now) (across a.zone.now (enter_moves a.kind (arrangement_of (tabled a.robots.now a.vertices.now) a.zone.now) a.j a.behind l))) e
+    ∙ ap (λ (l : List ℕ). made_all (world a.state.now a.count a.out.now) (across a.zone.now (enter_moves a.kind (arrangement_of a.state.now a.zone.now) a.j a.behind l))) e

@@ -1,8 +1,7 @@
 use Rattle.crossing.specs.Sides.{entered_ready}
 use Rattle.clique.specs.Entering.{numbered_none}
-use Rattle.motion.specs.World.{world_in}
+use Rattle.motion.specs.World.{world}
 use Rattle.spec.specs.State.{arrangement_of}
-use Rattle.motion.specs.Tables.{tabled}
 use mathlib.Core.List.{[]}
 use mathlib.Core.Path.{sym}
 use borrow.Author.Rules.{rules}
@@ -13,7 +12,7 @@ unfolding arrangement_of
 returns-then-is_ready c =
     let a = c.args in
     let q = c.is_ready.ensures c.if-is_ready.true in
-    entered_ready a.kind (tabled a.robots.now a.vertices.now) a.zone.now c.requires.proper a.j c.requires.zone_len_bound.1 a.v.0 a.behind [] (world_in a.robots.now a.vertices.now a.count a.out.now) c.requires.zone_len_bound.2 c.requires.zone_value q.0 q.1
+    entered_ready a.kind a.state.now a.zone.now c.requires.proper a.j c.requires.zone_len_bound.1 a.v.0 a.behind [] (world a.state.now a.count a.out.now) c.requires.zone_len_bound.2 c.requires.zone_value q.0 q.1
 
 pub enter-requires : goal.enter-requires
 unfolding arrangement_of

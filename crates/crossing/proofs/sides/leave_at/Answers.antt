@@ -1,9 +1,8 @@
 use Rattle.crossing.specs.Sides.{left_ready}
 use Rattle.walking.specs.Given.{part, kind_at, vertices_at}
 use Rattle.walking.specs.Kinds.{leave_moves}
-use Rattle.motion.specs.World.{world_in, made_all}
+use Rattle.motion.specs.World.{world, made_all}
 use Rattle.spec.specs.State.{arrangement_of, across}
-use Rattle.motion.specs.Tables.{tabled}
 use lib.ListN.{get_or}
 use Prim.Native.Nat.{ℕ}
 use mathlib.Core.List.{List}
@@ -14,7 +13,7 @@ pub returns-then-robot_in-r : goal.returns-then-robot_in-r
 unfolding arrangement_of
 returns-then-robot_in-r c =
     let a = c.args in
-    left_ready (kind_at a.kind.now a.zone.now a.u) (tabled a.robots.now a.vertices.now) (vertices_at a.first.now a.size.now a.listed.now a.zone.now a.u) c.requires.proper (get_or a.place.now a.u 0) c.requires.has_vertex.inside a.r a.u (world_in a.robots.now a.vertices.now a.count a.out.now) c.requires.has_vertex.there c.requires.u_value (sym c.if-robot_in-r.true ∙ c.robot_in.ensures)
+    left_ready (kind_at a.kind.now a.zone.now a.u) a.state.now (vertices_at a.first.now a.size.now a.listed.now a.zone.now a.u) c.requires.proper (get_or a.place.now a.u 0) c.requires.has_vertex.inside a.r a.u (world a.state.now a.count a.out.now) c.requires.has_vertex.there c.requires.u_value (sym c.if-robot_in-r.true ∙ c.robot_in.ensures)
 
 pub leave_in-requires : goal.leave_in-requires
 unfolding arrangement_of
@@ -30,4 +29,4 @@ returns c =
     let a = c.args in
     let z : ℕ = get_or a.zone.now a.u 0 in
     c.leave_in.ensures
-    ∙ ap (λ (vs : List ℕ). made_all (world_in a.robots.now a.vertices.now a.count a.out.now) (across vs (leave_moves (kind_at a.kind.now a.zone.now a.u) (arrangement_of (tabled a.robots.now a.vertices.now) vs) a.r (get_or a.place.now a.u 0)))) (part (get_or a.first.now z 0) (get_or a.size.now z 0) a.listed.now)
+    ∙ ap (λ (vs : List ℕ). made_all (world a.state.now a.count a.out.now) (across vs (leave_moves (kind_at a.kind.now a.zone.now a.u) (arrangement_of a.state.now vs) a.r (get_or a.place.now a.u 0)))) (part (get_or a.first.now z 0) (get_or a.size.now z 0) a.listed.now)

@@ -1,7 +1,6 @@
 use Rattle.crossing.specs.Sides.{left_near}
-use Rattle.motion.specs.World.{world_in}
+use Rattle.motion.specs.World.{world}
 use Rattle.spec.specs.State.{arrangement_of}
-use Rattle.motion.specs.Tables.{tabled}
 use mathlib.Core.Path.{◌≡◌, sym, ◌∙◌}
 use borrow.Author.Rules.{rules}
 use Rattle.crossing.proofs.sides.leave_in.Goals as goal
@@ -11,7 +10,7 @@ unfolding arrangement_of
 returns-then-x-r c =
     let a = c.args in
     let q : c.robot_in-there.result ≡ 255 = search rules in
-    left_near a.kind (tabled a.robots.now a.vertices.now) a.zone.now c.requires.proper a.j c.requires.zone_len_bound.1 a.r a.u.0 _ _ _ (world_in a.robots.now a.vertices.now a.count a.out.now) _ c.requires.zone_len_bound.2 c.requires.j_value (sym q ∙ c.robot_in-there.ensures) c.near_place-i.ensures c.robot_at-x.ensures c.if-x-r.true c.vertex_at-w.ensures c.make.ensures
+    left_near a.kind a.state.now a.zone.now c.requires.proper a.j c.requires.zone_len_bound.1 a.r a.u.0 _ _ _ (world a.state.now a.count a.out.now) _ c.requires.zone_len_bound.2 c.requires.j_value (sym q ∙ c.robot_in-there.ensures) c.near_place-i.ensures c.robot_at-x.ensures c.if-x-r.true c.vertex_at-w.ensures c.make.ensures
 
 pub leave-requires : goal.leave-requires
 unfolding arrangement_of

@@ -7,7 +7,7 @@ use mathlib.Core.List.{List}
 use Rattle.spec.specs.Arrangement.{Move}
 use Rattle.spec.specs.State.{across}
 use Rattle.spec.specs.Hall.{down, lowering}
-use Rattle.motion.specs.World.{world_in, made_all, made_none}
+use Rattle.motion.specs.World.{world, made_all, made_none}
 use Rattle.motion.specs.Across.{across_nil, made_both}
 use Rattle.hall.specs.Trips.{trips_from, lowering_more, lowering_done}
 use Rattle.hall.proofs.trips.lower_all.Goals as goal
@@ -20,7 +20,7 @@ loop-i-preserved c =
     let a = c.args in
     let o = c.loop-i in
     let z = a.zone.now in
-    let w = world_in o.robots o.vertices o.made o.out in
+    let w = world o.state o.made o.out in
     let rs = a.line.now in
     let ps = a.places.now in
     let gs = a.goals.now in
@@ -39,6 +39,6 @@ returns c =
     let a = c.args in
     let o = c.loop-i in
     let e : o.i ≡ a.n = omega arith in
-    made_none (world_in o.robots o.vertices o.made o.out) _
+    made_none (world o.state o.made o.out) _
     (ap (λ (k : ℕ). across a.zone.now (lowering (trips_from a.line.now a.places.now a.goals.now k a.n))) e
     ∙ ap (across a.zone.now) (lowering_done a.line.now a.places.now a.goals.now a.n) ∙ across_nil a.zone.now) ∙ o.invariant.2

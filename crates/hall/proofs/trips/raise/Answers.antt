@@ -4,7 +4,7 @@ use mathlib.Core.Path.{refl, ap, ◌∙◌}
 use Rattle.spec.specs.Arrangement.{mv}
 use Rattle.spec.specs.State.{across}
 use Rattle.spec.specs.Hall.{up}
-use Rattle.motion.specs.World.{world_in, made, made_none}
+use Rattle.motion.specs.World.{world, made, made_none}
 use Rattle.motion.specs.Across.{across_move_lem, across_nil, made_more}
 use Rattle.hall.specs.Trips.{up_more, up_done}
 use Rattle.hall.proofs.trips.raise.Goals as goal
@@ -17,7 +17,7 @@ loop-at-preserved c =
     let a = c.args in
     let o = c.loop-at in
     let z = a.zone.now in
-    let w = world_in o.robots o.vertices o.made o.out in (
+    let w = world o.state o.made o.out in (
       search rules,
       search rules,
       made_more w _ z (mv a.r.0 o.at (o.at + 1)) (up a.r.0 (a.to - (o.at + 1)) (o.at + 1)) _
@@ -31,4 +31,4 @@ pub returns : goal.returns
 returns c =
     let a = c.args in
     let o = c.loop-at in
-    made_none (world_in o.robots o.vertices o.made o.out) _ (ap (across a.zone.now) (up_done a.r.0 o.at a.to c.loop-at-test.false) ∙ across_nil a.zone.now) ∙ o.invariant.2
+    made_none (world o.state o.made o.out) _ (ap (across a.zone.now) (up_done a.r.0 o.at a.to c.loop-at-test.false) ∙ across_nil a.zone.now) ∙ o.invariant.2

@@ -7,7 +7,7 @@ use mathlib.Core.List.{List}
 use Rattle.spec.specs.Arrangement.{Move}
 use Rattle.spec.specs.State.{across}
 use Rattle.spec.specs.Hall.{up, raising}
-use Rattle.motion.specs.World.{world_in, made_all, made_none}
+use Rattle.motion.specs.World.{world, made_all, made_none}
 use Rattle.motion.specs.Across.{across_nil, made_both}
 use Rattle.hall.specs.Trips.{trips_from, raising_more, raising_done}
 use Rattle.hall.proofs.trips.raise_all.Goals as goal
@@ -27,7 +27,7 @@ loop-left-preserved c =
     let a = c.args in
     let o = c.loop-left in
     let z = a.zone.now in
-    let w = world_in a.robots.now a.vertices.now a.count a.out.now in
+    let w = world a.state.now a.count a.out.now in
     let rs = a.line.now in
     let ps = a.places.now in
     let gs = a.goals.now in
@@ -49,4 +49,4 @@ returns c =
     let a = c.args in
     let o = c.loop-left in
     let e : o.left ≡ 0 = omega arith in
-    o.invariant.2 ∙ ap (λ (k : ℕ). made_all (world_in a.robots.now a.vertices.now a.count a.out.now) (across a.zone.now (raising (trips_from a.line.now a.places.now a.goals.now k a.n)))) e
+    o.invariant.2 ∙ ap (λ (k : ℕ). made_all (world a.state.now a.count a.out.now) (across a.zone.now (raising (trips_from a.line.now a.places.now a.goals.now k a.n)))) e

@@ -3,15 +3,15 @@ use mathlib.Core.Path.{◌≡◌}
 use lib.ListN.{length}
 use Rattle.spec.specs.State.{across}
 use Rattle.spec.specs.Hall.{raising}
-use Rattle.motion.specs.World.{world_in, made_all}
+use Rattle.motion.specs.World.{world, made_all}
 use Rattle.hall.specs.Trips.{trips_from}
 use Rattle.hall.proofs.trips.raise_all.Given as goal
 
 abbrev pub invariant-loop-left : goal.invariant-loop-left
 invariant-loop-left l =
     (length l.out ≡ length l.initial.out) × (l.left ≤ l.n)
-    × (world_in l.robots l.vertices l.made l.out ≡ made_all (world_in l.initial.robots l.initial.vertices l.initial.made l.initial.out) (across l.zone (raising (trips_from l.line l.places l.goals l.left l.n))))
-    × (length l.robots ≡ length l.initial.robots) × (length l.vertices ≡ length l.initial.vertices)
+    × (world l.state l.made l.out ≡ made_all (world l.initial.state l.initial.made l.initial.out) (across l.zone (raising (trips_from l.line l.places l.goals l.left l.n))))
+    × (length l.state.robots ≡ length l.initial.state.robots) × (length l.vertices ≡ length l.initial.vertices)
 
 abbrev pub decreases-loop-left : goal.decreases-loop-left
 decreases-loop-left l = l.left

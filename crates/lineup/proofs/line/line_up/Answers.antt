@@ -2,7 +2,6 @@ use borrow.Author.Rules.{rules}
 use native.Mathlib.Omega.{arith}
 use mathlib.Core.Path.{refl}
 use lib.ListN.{length-set}
-use Rattle.motion.specs.Tables.{on_vertices}
 use Rattle.lineup.specs.Line.{collect_none, collect_robot, collect_empty, collect_all}
 use Rattle.lineup.proofs.line.line_up.Goals as goal
 
@@ -17,7 +16,7 @@ loop-k-preserved-then-r c =
       search rules,
       simp length-set o.invariant.1,
       simp length-set o.invariant.2,
-      collect_robot (on_vertices a.robots.now) a.zone.now o.k o.n c.robot_on-r.result.0 o.line o.places c.loop-k-test.true
+      collect_robot a.state.now a.zone.now o.k o.n c.robot_on-r.result.0 o.line o.places c.loop-k-test.true
           c.robot_on-r.ensures c.if-r.true (omega (arith, v.short, c.requires)) (omega (arith, v.short, c.requires)) v,
     )
 
@@ -28,7 +27,7 @@ loop-k-preserved c =
       search rules,
       o.invariant.1,
       o.invariant.2,
-      collect_empty (on_vertices a.robots.now) a.zone.now o.k o.n c.robot_on-r.result.0 o.line o.places c.loop-k-test.true
+      collect_empty a.state.now a.zone.now o.k o.n c.robot_on-r.result.0 o.line o.places c.loop-k-test.true
           c.robot_on-r.ensures c.if-r.false o.invariant.3,
     )
 
@@ -36,4 +35,4 @@ pub returns : goal.returns
 returns c =
     let a = c.args in
     let o = c.loop-k in
-    collect_all (on_vertices a.robots.now) a.zone.now o.k o.n o.line o.places (omega arith) o.invariant.3
+    collect_all a.state.now a.zone.now o.k o.n o.line o.places (omega arith) o.invariant.3

@@ -1,11 +1,10 @@
 use Prim.Native.Nat.{◌-◌}
 use lib.ListN.{length}
-use Rattle.motion.specs.Tables.{on_vertices}
 use Rattle.reaching.specs.Reach.{Walking}
 use Rattle.reaching.proofs.reach.can_end.Given as goal
 
 abbrev pub invariant-loop-i : goal.invariant-loop-i
-invariant-loop-i l = Walking (on_vertices l.robots) (on_vertices l.goals) l.zone l.i l.k
+invariant-loop-i l = Walking l.state l.goals l.zone l.i l.k
 
 abbrev pub decreases-loop-i : goal.decreases-loop-i
 decreases-loop-i l = length l.zone - l.i

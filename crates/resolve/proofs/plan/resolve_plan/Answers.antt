@@ -7,7 +7,6 @@ use mir.Syntax.{w8}
 use borrow.Kind.Array.{e_int, good_length}
 use Rattle.spec.specs.State as meaning
 use Rattle.motion.specs.States.{state_of}
-use Rattle.motion.specs.Tables.{tabled}
 use Rattle.motion.specs.World.{made_all}
 use Rattle.walking.specs.Alone.{goals_by, endings_alone}
 use Rattle.resolve.specs.Whole.{cleared_start, cleared_over, cleared_goals, cleared_end}

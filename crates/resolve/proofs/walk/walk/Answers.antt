@@ -4,9 +4,8 @@ use Rattle.walking.specs.Walk.{walk_start, walk_end, walk_over}
 use Rattle.resolve.specs.Whole.{walked_whole, walked_part}
 use Rattle.walking.specs.Given.{kind_at, vertices_at}
 use Rattle.theory.specs.Zones.Crossing.{extra_of}
-use Rattle.motion.specs.World.{world_in}
+use Rattle.motion.specs.World.{world}
 use Rattle.wire.specs.Payload.{payload, held_length}
-use Rattle.motion.specs.Tables.{arrangement_alone}
 use lib.ListN.{take}
 use native.Mathlib.Omega.{arith}
 use mathlib.Core.Path.{refl, ap, ◌∙◌}
@@ -15,14 +14,14 @@ use Rattle.resolve.proofs.walk.walk.Goals as goal
 pub loop-i-init : goal.loop-i-init
 loop-i-init c =
     let a = c.args in
-    (refl, search rules, λ x. walk_start x.map x.given.accepted x.k x.given.few (take x.len (payload a.file.now)) a.count (world_in a.robots.now a.vertices.now 0 a.out.now) (omega (arith, held_length a.file.now x.len x.most, x.two)) x.consistent, refl, refl, c.payload_ahead-four.ensures.0)
+    (refl, search rules, λ x. walk_start x.map x.given.accepted x.k x.given.few (take x.len (payload a.file.now)) a.count (world a.state.now 0 a.out.now) (omega (arith, held_length a.file.now x.len x.most, x.two)) x.consistent, refl, refl, c.payload_ahead-four.ensures.0)
 
 pub returns-then-over : goal.returns-then-over
 returns-then-over c =
     λ x.
     let a = c.args in
     let l = c.loop-i in
-    walked_part _ _ _ _ _ _ _ refl (walk_over x.map x.given.accepted x.k x.given.few (take x.len (payload a.file.now)) a.count (world_in a.robots.now a.vertices.now 0 a.out.now) l.i l.o (world_in l.robots l.vertices l.made l.out) (l.invariant.2 x) (search rules))
+    walked_part _ _ _ _ _ _ _ refl (walk_over x.map x.given.accepted x.k x.given.few (take x.len (payload a.file.now)) a.count (world a.state.now 0 a.out.now) l.i l.o (world l.state l.made l.out) (l.invariant.2 x) (search rules))
 
 pub list_length_at-e-requires : goal.list_length_at-e-requires
 list_length_at-e-requires c =
@@ -31,8 +30,8 @@ list_length_at-e-requires c =
     let l = c.loop-i in
     let g = l.invariant.2 x in
     let h = c.loop-i-test.true in
-    let f = l.invariant.5 (next_room a.file.now a.count a.kind.now a.first.now a.size.now a.listed.now a.zone.now a.place.now (world_in a.robots.now a.vertices.now 0 a.out.now) x l.i l.o (world_in l.robots l.vertices l.made l.out) g h) in
-    let y = next_to a.file.now a.count a.kind.now a.first.now a.size.now a.listed.now a.zone.now a.place.now (world_in a.robots.now a.vertices.now 0 a.out.now) x l.i l.o (world_in l.robots l.vertices l.made l.out) g h l.four f in
+    let f = l.invariant.5 (next_room a.file.now a.count a.kind.now a.first.now a.size.now a.listed.now a.zone.now a.place.now (world a.state.now 0 a.out.now) x l.i l.o (world l.state l.made l.out) g h) in
+    let y = next_to a.file.now a.count a.kind.now a.first.now a.size.now a.listed.now a.zone.now a.place.now (world a.state.now 0 a.out.now) x l.i l.o (world l.state l.made l.out) g h l.four f in
     (y.below, y.here)
 
 pub overflow_add-next : goal.overflow_add-next
@@ -42,10 +41,10 @@ overflow_add-next c =
     let l = c.loop-i in
     let g = l.invariant.2 x in
     let h = c.loop-i-test.true in
-    let f = l.invariant.5 (next_room a.file.now a.count a.kind.now a.first.now a.size.now a.listed.now a.zone.now a.place.now (world_in a.robots.now a.vertices.now 0 a.out.now) x l.i l.o (world_in l.robots l.vertices l.made l.out) g h) in
+    let f = l.invariant.5 (next_room a.file.now a.count a.kind.now a.first.now a.size.now a.listed.now a.zone.now a.place.now (world a.state.now 0 a.out.now) x l.i l.o (world l.state l.made l.out) g h) in
     let e = c.list_length_at-e.result in
     let q = c.list_length_at-e.ensures ∙ ap (extra_of (kind_at a.kind.now a.zone.now l.four.third)) (arrangement_alone l.robots l.vertices (vertices_at a.first.now a.size.now a.listed.now a.zone.now l.four.third)) in
-    omega (arith, next_end a.file.now a.count a.kind.now a.first.now a.size.now a.listed.now a.zone.now a.place.now (world_in a.robots.now a.vertices.now 0 a.out.now) x l.i l.o (world_in l.robots l.vertices l.made l.out) g h l.four f e q)
+    omega (arith, next_end a.file.now a.count a.kind.now a.first.now a.size.now a.listed.now a.zone.now a.place.now (world a.state.now 0 a.out.now) x l.i l.o (world l.state l.made l.out) g h l.four f e q)
 
 pub overflow_add-next-in-loop-i : goal.overflow_add-next-in-loop-i
 overflow_add-next-in-loop-i c =
@@ -54,10 +53,10 @@ overflow_add-next-in-loop-i c =
     let l = c.loop-i in
     let g = l.invariant.2 x in
     let h = c.loop-i-test.true in
-    let f = l.invariant.5 (next_room a.file.now a.count a.kind.now a.first.now a.size.now a.listed.now a.zone.now a.place.now (world_in a.robots.now a.vertices.now 0 a.out.now) x l.i l.o (world_in l.robots l.vertices l.made l.out) g h) in
+    let f = l.invariant.5 (next_room a.file.now a.count a.kind.now a.first.now a.size.now a.listed.now a.zone.now a.place.now (world a.state.now 0 a.out.now) x l.i l.o (world l.state l.made l.out) g h) in
     let e = c.list_length_at-e.result in
     let q = c.list_length_at-e.ensures ∙ ap (extra_of (kind_at a.kind.now a.zone.now l.four.third)) (arrangement_alone l.robots l.vertices (vertices_at a.first.now a.size.now a.listed.now a.zone.now l.four.third)) in
-    omega (arith, next_end a.file.now a.count a.kind.now a.first.now a.size.now a.listed.now a.zone.now a.place.now (world_in a.robots.now a.vertices.now 0 a.out.now) x l.i l.o (world_in l.robots l.vertices l.made l.out) g h l.four f e q)
+    omega (arith, next_end a.file.now a.count a.kind.now a.first.now a.size.now a.listed.now a.zone.now a.place.now (world a.state.now 0 a.out.now) x l.i l.o (world l.state l.made l.out) g h l.four f e q)
 
 pub payload_ahead-ahead-requires : goal.payload_ahead-ahead-requires
 payload_ahead-ahead-requires c =
@@ -66,10 +65,10 @@ payload_ahead-ahead-requires c =
     let l = c.loop-i in
     let g = l.invariant.2 x in
     let h = c.loop-i-test.true in
-    let f = l.invariant.5 (next_room a.file.now a.count a.kind.now a.first.now a.size.now a.listed.now a.zone.now a.place.now (world_in a.robots.now a.vertices.now 0 a.out.now) x l.i l.o (world_in l.robots l.vertices l.made l.out) g h) in
+    let f = l.invariant.5 (next_room a.file.now a.count a.kind.now a.first.now a.size.now a.listed.now a.zone.now a.place.now (world a.state.now 0 a.out.now) x l.i l.o (world l.state l.made l.out) g h) in
     let e = c.list_length_at-e.result in
     let q = c.list_length_at-e.ensures ∙ ap (extra_of (kind_at a.kind.now a.zone.now l.four.third)) (arrangement_alone l.robots l.vertices (vertices_at a.first.now a.size.now a.listed.now a.zone.now l.four.third)) in
-    omega (arith, next_end a.file.now a.count a.kind.now a.first.now a.size.now a.listed.now a.zone.now a.place.now (world_in a.robots.now a.vertices.now 0 a.out.now) x l.i l.o (world_in l.robots l.vertices l.made l.out) g h l.four f e q)
+    omega (arith, next_end a.file.now a.count a.kind.now a.first.now a.size.now a.listed.now a.zone.now a.place.now (world a.state.now 0 a.out.now) x l.i l.o (world l.state l.made l.out) g h l.four f e q)
 
 pub make_step-made-requires : goal.make_step-made-requires
 make_step-made-requires c =
@@ -78,10 +77,10 @@ make_step-made-requires c =
     let l = c.loop-i in
     let g = l.invariant.2 x in
     let h = c.loop-i-test.true in
-    let f = l.invariant.5 (next_room a.file.now a.count a.kind.now a.first.now a.size.now a.listed.now a.zone.now a.place.now (world_in a.robots.now a.vertices.now 0 a.out.now) x l.i l.o (world_in l.robots l.vertices l.made l.out) g h) in
+    let f = l.invariant.5 (next_room a.file.now a.count a.kind.now a.first.now a.size.now a.listed.now a.zone.now a.place.now (world a.state.now 0 a.out.now) x l.i l.o (world l.state l.made l.out) g h) in
     let e = c.list_length_at-e.result in
     let q = c.list_length_at-e.ensures ∙ ap (extra_of (kind_at a.kind.now a.zone.now l.four.third)) (arrangement_alone l.robots l.vertices (vertices_at a.first.now a.size.now a.listed.now a.zone.now l.four.third)) in
-    record { stepping = next_step a.file.now a.count a.kind.now a.first.now a.size.now a.listed.now a.zone.now a.place.now (world_in a.robots.now a.vertices.now 0 a.out.now) x l.i l.o (world_in l.robots l.vertices l.made l.out) g h l.four f e q; four_at = f }
+    record { stepping = next_step a.file.now a.count a.kind.now a.first.now a.size.now a.listed.now a.zone.now a.place.now (world a.state.now 0 a.out.now) x l.i l.o (world l.state l.made l.out) g h l.four f e q; four_at = f }
 
 pub overflow_add-i : goal.overflow_add-i
 overflow_add-i c =
@@ -96,15 +95,15 @@ loop-i-preserved c =
     let l = c.loop-i in
     let g = l.invariant.2 x in
     let h = c.loop-i-test.true in
-    let f = l.invariant.5 (next_room a.file.now a.count a.kind.now a.first.now a.size.now a.listed.now a.zone.now a.place.now (world_in a.robots.now a.vertices.now 0 a.out.now) x l.i l.o (world_in l.robots l.vertices l.made l.out) g h) in
+    let f = l.invariant.5 (next_room a.file.now a.count a.kind.now a.first.now a.size.now a.listed.now a.zone.now a.place.now (world a.state.now 0 a.out.now) x l.i l.o (world l.state l.made l.out) g h) in
     let e = c.list_length_at-e.result in
     let q = c.list_length_at-e.ensures ∙ ap (extra_of (kind_at a.kind.now a.zone.now l.four.third)) (arrangement_alone l.robots l.vertices (vertices_at a.first.now a.size.now a.listed.now a.zone.now l.four.third)) in (
       search rules,
       search rules,
       λ x.
           let g = l.invariant.2 x in
-          next_made a.file.now a.count a.kind.now a.first.now a.size.now a.listed.now a.zone.now a.place.now (world_in a.robots.now a.vertices.now 0 a.out.now) x l.i l.o (world_in l.robots l.vertices l.made l.out) g h l.four f e q _
-          (c.make_step-made.ensures x.map x.n x.k x.len x.rows x.given g.consistent x.most (next_is a.file.now a.count a.kind.now a.first.now a.size.now a.listed.now a.zone.now a.place.now (world_in a.robots.now a.vertices.now 0 a.out.now) x l.i l.o (world_in l.robots l.vertices l.made l.out) g h l.four f e q)),
+          next_made a.file.now a.count a.kind.now a.first.now a.size.now a.listed.now a.zone.now a.place.now (world a.state.now 0 a.out.now) x l.i l.o (world l.state l.made l.out) g h l.four f e q _
+          (c.make_step-made.ensures x.map x.n x.k x.len x.rows x.given g.consistent x.most (next_is a.file.now a.count a.kind.now a.first.now a.size.now a.listed.now a.zone.now a.place.now (world a.state.now 0 a.out.now) x l.i l.o (world l.state l.made l.out) g h l.four f e q)),
       search rules,
       search rules,
       c.payload_ahead-ahead.ensures.0,
@@ -115,4 +114,4 @@ returns c =
     λ x.
     let a = c.args in
     let l = c.loop-i in
-    walked_whole _ _ _ _ _ _ _ refl l.o (walk_end x.map x.given.accepted x.k x.given.few (take x.len (payload a.file.now)) a.count (world_in a.robots.now a.vertices.now 0 a.out.now) l.i l.o (world_in l.robots l.vertices l.made l.out) (l.invariant.2 x) (omega arith))
+    walked_whole _ _ _ _ _ _ _ refl l.o (walk_end x.map x.given.accepted x.k x.given.few (take x.len (payload a.file.now)) a.count (world a.state.now 0 a.out.now) l.i l.o (world l.state l.made l.out) (l.invariant.2 x) (omega arith))

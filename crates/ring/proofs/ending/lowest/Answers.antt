@@ -5,12 +5,11 @@ use mathlib.Core.Path.{◌≡◌, refl, ap, ◌∙◌}
 use lib.ListN.{length, drop}
 use Rattle.spec.specs.Arrangement.{order}
 use Rattle.spec.specs.State.{arrangement_of}
-use Rattle.motion.specs.Tables.{on_vertices}
 use Rattle.ring.specs.Ending.{lowest_cell, lowest_lower, lowest_kept, lowest_none}
 use Rattle.ring.proofs.ending.lowest.Goals as goal
 
 pub loop-k-init : goal.loop-k-init
-loop-k-init c = (search rules, search rules, lowest_none (on_vertices c.args.robots.now) c.args.zone.now (length c.args.zone.now) 255 (search rules) refl)
+loop-k-init c = (search rules, search rules, lowest_none c.args.state.now c.args.zone.now (length c.args.zone.now) 255 (search rules) refl)
 
 pub loop-k-preserved-then-lower : goal.loop-k-preserved-then-lower
 loop-k-preserved-then-lower c =
@@ -20,8 +19,8 @@ loop-k-preserved-then-lower c =
     let n : o.k ≡ k + 1 = omega arith in (
       omega arith,
       omega arith,
-      lowest_lower (on_vertices a.robots.now) a.zone.now k c.robot_at-x.result.0 o.best (omega arith) c.robot_at-x.ensures (search rules) o.invariant.1
-          (o.invariant.2 ∙ ap (λ (i : ℕ). lowest_cell (order (drop i (arrangement_of (on_vertices a.robots.now) a.zone.now)))) n),
+      lowest_lower a.state.now a.zone.now k c.robot_at-x.result.0 o.best (omega arith) c.robot_at-x.ensures (search rules) o.invariant.1
+          (o.invariant.2 ∙ ap (λ (i : ℕ). lowest_cell (order (drop i (arrangement_of a.state.now a.zone.now)))) n),
     )
 
 pub loop-k-preserved : goal.loop-k-preserved
@@ -32,8 +31,8 @@ loop-k-preserved c =
     let n : o.k ≡ k + 1 = omega arith in (
       omega arith,
       o.invariant.1,
-      lowest_kept (on_vertices a.robots.now) a.zone.now k c.robot_at-x.result.0 o.best (omega arith) c.robot_at-x.ensures (search rules) (search rules)
-          (o.invariant.2 ∙ ap (λ (i : ℕ). lowest_cell (order (drop i (arrangement_of (on_vertices a.robots.now) a.zone.now)))) n),
+      lowest_kept a.state.now a.zone.now k c.robot_at-x.result.0 o.best (omega arith) c.robot_at-x.ensures (search rules) (search rules)
+          (o.invariant.2 ∙ ap (λ (i : ℕ). lowest_cell (order (drop i (arrangement_of a.state.now a.zone.now)))) n),
     )
 
 pub returns : goal.returns
@@ -41,4 +40,4 @@ returns c =
     let a = c.args in
     let o = c.loop-k in
     let n : o.k ≡ 0 = omega arith in
-    o.invariant.2 ∙ ap (λ (i : ℕ). lowest_cell (order (drop i (arrangement_of (on_vertices a.robots.now) a.zone.now)))) n
+    o.invariant.2 ∙ ap (λ (i : ℕ). lowest_cell (order (drop i (arrangement_of a.state.now a.zone.now)))) n

@@ -7,7 +7,7 @@ use Rattle.tabling.specs.Places.{free_word, free_half, free_start, free_empty, f
 use Rattle.tabling.proofs.placing.free_cells.Goals as goal
 
 pub loop-k-init : goal.loop-k-init
-loop-k-init c = (search rules, search rules, free_start c.args.cells.now c.least-k.result c.least-k.ensures)
+loop-k-init c = (search rules, search rules, free_start c.args.cells.now c.min-k.result c.min-k.ensures)
 
 pub overflow_mul-w : goal.overflow_mul-w
 overflow_mul-w c = omega (arith, free_half c.loop-k.k c.args.cells.now c.loop-k-test.true)

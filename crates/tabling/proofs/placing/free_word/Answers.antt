@@ -4,7 +4,6 @@ use Prim.Native.Nat.{ℕ, ◌-◌, ◌≤◌}
 use mathlib.Core.Path.{◌≡◌, ap, ◌∙◌}
 use lib.ListN.{drop}
 use Rattle.spec.specs.State.{arrangement_of}
-use Rattle.motion.specs.Tables.{on_vertices}
 use Rattle.motion.specs.Across.{arrangement_length}
 use Rattle.tabling.specs.Places.{free_word, free_half, free_start, free_empty, free_taken}
 use Rattle.cells.specs.Reading.{empty_here, taken_here}
@@ -12,43 +11,43 @@ use Rattle.tabling.proofs.placing.free_word.Goals as goal
 
 pub loop-k-init : goal.loop-k-init
 loop-k-init c =
-    let a = arrangement_of (on_vertices c.args.robots.now) c.args.zone.now in
-    (search rules, search rules, free_start a c.least-k.result (omega (arith, c.least-k.ensures, arrangement_length (on_vertices c.args.robots.now) c.args.zone.now)))
+    let a = arrangement_of c.args.state.now c.args.zone.now in
+    (search rules, search rules, free_start a c.min-k.result (omega (arith, c.min-k.ensures, arrangement_length c.args.state.now c.args.zone.now)))
 
 pub overflow_mul-w : goal.overflow_mul-w
 overflow_mul-w c =
     let a = c.args in
     let o = c.loop-k in
     let d : 64 - o.k ≤ 63 = omega arith in
-    omega (arith, free_half o.k (arrangement_of (on_vertices a.robots.now) a.zone.now) c.loop-k-test.true)
+    omega (arith, free_half o.k (arrangement_of a.state.now a.zone.now) c.loop-k-test.true)
 
 pub overflow_add-w : goal.overflow_add-w
 overflow_add-w c =
     let a = c.args in
     let o = c.loop-k in
     let d : 64 - o.k ≤ 63 = omega arith in
-    omega (arith, free_half o.k (arrangement_of (on_vertices a.robots.now) a.zone.now) c.loop-k-test.true)
+    omega (arith, free_half o.k (arrangement_of a.state.now a.zone.now) c.loop-k-test.true)
 
 pub loop-k-preserved-then-r : goal.loop-k-preserved-then-r
 loop-k-preserved-then-r c =
     let a = c.args in
     let o = c.loop-k in
-    let n = arrangement_length (on_vertices a.robots.now) a.zone.now in (
+    let n = arrangement_length a.state.now a.zone.now in (
       omega arith,
       omega arith,
-      free_empty (arrangement_of (on_vertices a.robots.now) a.zone.now) o.k o.w c.loop-k-test.true (omega (arith, n)) o.invariant.1 o.invariant.2
-          (empty_here (on_vertices a.robots.now) a.zone.now (o.k - 1) c.robot_on-r.result.0 (omega arith) c.robot_on-r.ensures c.if-r.true),
+      free_empty (arrangement_of a.state.now a.zone.now) o.k o.w c.loop-k-test.true (omega (arith, n)) o.invariant.1 o.invariant.2
+          (empty_here a.state.now a.zone.now (o.k - 1) c.robot_on-r.result.0 (omega arith) c.robot_on-r.ensures c.if-r.true),
     )
 
 pub loop-k-preserved : goal.loop-k-preserved
 loop-k-preserved c =
     let a = c.args in
     let o = c.loop-k in
-    let n = arrangement_length (on_vertices a.robots.now) a.zone.now in (
+    let n = arrangement_length a.state.now a.zone.now in (
       omega arith,
       omega arith,
-      free_taken (arrangement_of (on_vertices a.robots.now) a.zone.now) o.k o.w c.loop-k-test.true (omega (arith, n)) o.invariant.1 o.invariant.2
-          (taken_here (on_vertices a.robots.now) a.zone.now (o.k - 1) c.robot_on-r.result.0 (omega arith) c.robot_on-r.ensures c.if-r.false),
+      free_taken (arrangement_of a.state.now a.zone.now) o.k o.w c.loop-k-test.true (omega (arith, n)) o.invariant.1 o.invariant.2
+          (taken_here a.state.now a.zone.now (o.k - 1) c.robot_on-r.result.0 (omega arith) c.robot_on-r.ensures c.if-r.false),
     )
 
 pub returns : goal.returns
@@ -56,4 +55,4 @@ returns c =
     let a = c.args in
     let o = c.loop-k in
     let e : o.k ≡ 0 = omega arith in
-    o.invariant.2 ∙ ap (λ (i : ℕ). free_word (64 - i) (drop i (arrangement_of (on_vertices a.robots.now) a.zone.now))) e
+    o.invariant.2 ∙ ap (λ (i : ℕ). free_word (64 - i) (drop i (arrangement_of a.state.now a.zone.now))) e

@@ -2,16 +2,15 @@ use mathlib.Core.Path.{ap, ◌∙◌}
 use Prim.Native.Nat.{ℕ}
 use lib.ListN.{get_or}
 use Rattle.spec.specs.State.{robot_on, arrangement_of}
-use Rattle.motion.specs.Tables.{on_vertices}
 use Rattle.turns.specs.Steps.{goes_not, goes_on_lem}
 use Rattle.turns.proofs.turning.goes_on.Goals as goal
 
 pub returns-then-p-j : goal.returns-then-p-j
 returns-then-p-j c =
     let a = c.args in
-    goes_not (arrangement_of (on_vertices a.robots.now) a.zone.now) a.j a.p c.if-p-j.true
+    goes_not (arrangement_of a.state.now a.zone.now) a.j a.p c.if-p-j.true
 
 pub returns : goal.returns
 returns c =
     let a = c.args in
-    goes_on_lem (on_vertices a.robots.now) a.zone.now a.j a.p c.robot_at-x.result.0 c.requires c.if-p-j.false (c.robot_at-x.ensures ∙ ap (λ (i : ℕ). robot_on (on_vertices a.robots.now) (get_or a.zone.now i 0)) c.next.ensures)
+    goes_on_lem a.state.now a.zone.now a.j a.p c.robot_at-x.result.0 c.requires c.if-p-j.false (c.robot_at-x.ensures ∙ ap (λ (i : ℕ). robot_on a.state.now (get_or a.zone.now i 0)) c.next.ensures)

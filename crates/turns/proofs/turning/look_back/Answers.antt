@@ -6,7 +6,6 @@ use lib.ListN.{length, get_or, take}
 use Rattle.spec.specs.Arrangement.{last_named}
 use Rattle.spec.specs.Ring.{wrap, opened}
 use Rattle.spec.specs.State.{robot_on, arrangement_of}
-use Rattle.motion.specs.Tables.{on_vertices}
 use Rattle.circle.specs.Places.{previous_place, wrap_under, wrap_previous}
 use Rattle.turns.specs.Entry.{walk_start, walk_all, walk_free, walk_taken, walk_over}
 use Rattle.turns.proofs.turning.look_back.Goals as goal
@@ -14,7 +13,7 @@ use Rattle.turns.proofs.turning.look_back.Goals as goal
 pub loop-k-init : goal.loop-k-init
 loop-k-init c =
     let a = c.args in
-    (refl, search rules, walk_start (on_vertices a.robots.now) a.zone.now a.j (search rules), walk_all (on_vertices a.robots.now) a.zone.now a.j (search rules))
+    (refl, search rules, walk_start a.state.now a.zone.now a.j (search rules), walk_all a.state.now a.zone.now a.j (search rules))
 
 pub previous-at-requires : goal.previous-at-requires
 previous-at-requires c =
@@ -27,7 +26,7 @@ returns-then-x c =
     let a = c.args in
     let o = c.loop-k in
     let z = a.zone.now in
-    let s = on_vertices a.robots.now in
+    let s = a.state.now in
     let h : a.j < length z = search rules in
     let k = o.k - 1 in
     let l : k + 1 < length z = omega arith in
@@ -42,7 +41,7 @@ loop-k-preserved c =
     let a = c.args in
     let o = c.loop-k in
     let z = a.zone.now in
-    let s = on_vertices a.robots.now in
+    let s = a.state.now in
     let h : a.j < length z = search rules in
     let k = o.k - 1 in
     let l : k + 1 < length z = omega arith in
@@ -60,4 +59,4 @@ pub returns : goal.returns
 returns c =
     let a = c.args in
     let o = c.loop-k in
-    walk_over (on_vertices a.robots.now) a.zone.now a.j (search rules) o.k (omega arith) o.invariant.3
+    walk_over a.state.now a.zone.now a.j (search rules) o.k (omega arith) o.invariant.3

@@ -1,6 +1,5 @@
 use Rattle.walking.specs.Kinds.{clique_end_lem, ring_end_lem, hall_end_lem, ring_can_end_lem}
-use Rattle.motion.specs.World.{world_in, made_all}
-use Rattle.motion.specs.Tables.{on_vertices}
+use Rattle.motion.specs.World.{world, made_all}
 use Rattle.spec.specs.State.{across, arrangement_of}
 use Rattle.spec.specs.Arrangement.{Move}
 use mathlib.Core.List.{List}
@@ -17,16 +16,16 @@ pub returns-in-3 : goal.returns-in-3
 returns-in-3 c =
     let a = c.args in
     let z = a.zone.now in
-    c.bring_to_goals.ensures ∙ ap (λ (ms : List Move). made_all (world_in a.robots.now a.vertices.now a.count a.out.now) (across z ms)) (clique_end_lem _ c.in-3.is (arrangement_of (on_vertices a.robots.now) z) (arrangement_of (on_vertices a.goals.now) z))
+    c.bring_to_goals.ensures ∙ ap (λ (ms : List Move). made_all (world a.state.now a.count a.out.now) (across z ms)) (clique_end_lem _ c.in-3.is (arrangement_of a.state.now z) (arrangement_of a.goals.now z))
 
 pub returns-in-4 : goal.returns-in-4
 returns-in-4 c =
     let a = c.args in
     let z = a.zone.now in
-    c.end.ensures ∙ ap (λ (ms : List Move). made_all (world_in a.robots.now a.vertices.now a.count a.out.now) (across z ms)) (ring_end_lem _ c.in-4.is (arrangement_of (on_vertices a.robots.now) z) (arrangement_of (on_vertices a.goals.now) z))
+    c.end.ensures ∙ ap (λ (ms : List Move). made_all (world a.state.now a.count a.out.now) (across z ms)) (ring_end_lem _ c.in-4.is (arrangement_of a.state.now z) (arrangement_of a.goals.now z))
 
 pub returns-in_default : goal.returns-in_default
 returns-in_default c =
     let a = c.args in
     let z = a.zone.now in
-    c.end-in_default.ensures ∙ ap (λ (ms : List Move). made_all (world_in a.robots.now a.vertices.now a.count a.out.now) (across z ms)) (hall_end_lem _ c.in_default.in_default-own.rest.0.1 c.in_default.in_default-own.rest.1 (arrangement_of (on_vertices a.robots.now) z) (arrangement_of (on_vertices a.goals.now) z))
+    c.end-in_default.ensures ∙ ap (λ (ms : List Move). made_all (world a.state.now a.count a.out.now) (across z ms)) (hall_end_lem _ c.in_default.in_default-own.rest.0.1 c.in_default.in_default-own.rest.1 (arrangement_of a.state.now z) (arrangement_of a.goals.now z))

@@ -4,8 +4,7 @@ use Prim.Native.Nat.{ℕ}
 use Rattle.theory.specs.Zones.Crossing.{extra_of}
 use Rattle.spec.specs.Arrangement.{Move}
 use Rattle.spec.specs.State.{across, arrangement_of}
-use Rattle.motion.specs.Tables.{on_vertices}
-use Rattle.motion.specs.World.{world_in, made_all}
+use Rattle.motion.specs.World.{world, made_all}
 use Rattle.walking.specs.Kinds.{clique_enter_lem, ring_enter_lem, hall_enter_lem}
 use borrow.Author.Rules.{rules}
 use Rattle.zones.proofs.moves.enter.Goals as goal
@@ -14,7 +13,7 @@ pub enter-requires : goal.enter-requires
 enter-requires c =
     let p = c.args in
     let f = c.requires in
-    let e = f.list_len ∙ ap (λ (k : ℕ). extra_of k (arrangement_of (on_vertices p.robots.now) p.zone.now)) c.in-3.is in
+    let e = f.list_len ∙ ap (λ (k : ℕ). extra_of k (arrangement_of p.state.now p.zone.now)) c.in-3.is in
     let d = f.proper.once in
     search rules
 
@@ -22,16 +21,16 @@ pub returns-in-3 : goal.returns-in-3
 returns-in-3 c =
     let a = c.args in
     let z = a.zone.now in
-    c.enter.ensures ∙ ap (λ (ms : List Move). made_all (world_in a.robots.now a.vertices.now a.count a.out.now) (across z ms)) (clique_enter_lem _ c.in-3.is (arrangement_of (on_vertices a.robots.now) z) a.j a.behind a.list.now)
+    c.enter.ensures ∙ ap (λ (ms : List Move). made_all (world a.state.now a.count a.out.now) (across z ms)) (clique_enter_lem _ c.in-3.is (arrangement_of a.state.now z) a.j a.behind a.list.now)
 
 pub returns-in-4 : goal.returns-in-4
 returns-in-4 c =
     let a = c.args in
     let z = a.zone.now in
-    c.enter-in-4.ensures ∙ ap (λ (ms : List Move). made_all (world_in a.robots.now a.vertices.now a.count a.out.now) (across z ms)) (ring_enter_lem _ c.in-4.is (arrangement_of (on_vertices a.robots.now) z) a.j a.behind a.list.now)
+    c.enter-in-4.ensures ∙ ap (λ (ms : List Move). made_all (world a.state.now a.count a.out.now) (across z ms)) (ring_enter_lem _ c.in-4.is (arrangement_of a.state.now z) a.j a.behind a.list.now)
 
 pub returns-in_default : goal.returns-in_default
 returns-in_default c =
     let a = c.args in
     let z = a.zone.now in
-    c.enter-in_default.ensures ∙ ap (λ (ms : List Move). made_all (world_in a.robots.now a.vertices.now a.count a.out.now) (across z ms)) (hall_enter_lem _ c.in_default.in_default-own.rest.0.1 c.in_default.in_default-own.rest.1 (arrangement_of (on_vertices a.robots.now) z) a.j a.behind a.list.now)
+    c.enter-in_default.ensures ∙ ap (λ (ms : List Move). made_all (world a.state.now a.count a.out.now) (across z ms)) (hall_enter_lem _ c.in_default.in_default-own.rest.0.1 c.in_default.in_default-own.rest.1 (arrangement_of a.state.now z) a.j a.behind a.list.now)

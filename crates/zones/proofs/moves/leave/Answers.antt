@@ -2,8 +2,7 @@ use mathlib.Core.Path.{ap, ◌∙◌}
 use mathlib.Core.List.{List}
 use Rattle.spec.specs.Arrangement.{Move}
 use Rattle.spec.specs.State.{across, arrangement_of}
-use Rattle.motion.specs.Tables.{on_vertices}
-use Rattle.motion.specs.World.{world_in, made_all}
+use Rattle.motion.specs.World.{world, made_all}
 use Rattle.walking.specs.Kinds.{clique_leave_lem, ring_leave_lem, hall_leave_lem, ring_can_leave_lem}
 use Rattle.zones.proofs.moves.leave.Goals as goal
 
@@ -14,16 +13,16 @@ pub returns-in-3 : goal.returns-in-3
 returns-in-3 c =
     let a = c.args in
     let z = a.zone.now in
-    c.leave.ensures ∙ ap (λ (ms : List Move). made_all (world_in a.robots.now a.vertices.now a.count a.out.now) (across z ms)) (clique_leave_lem _ c.in-3.is (arrangement_of (on_vertices a.robots.now) z) a.r.0 a.j)
+    c.leave.ensures ∙ ap (λ (ms : List Move). made_all (world a.state.now a.count a.out.now) (across z ms)) (clique_leave_lem _ c.in-3.is (arrangement_of a.state.now z) a.r.0 a.j)
 
 pub returns-in-4 : goal.returns-in-4
 returns-in-4 c =
     let a = c.args in
     let z = a.zone.now in
-    c.leave-in-4.ensures ∙ ap (λ (ms : List Move). made_all (world_in a.robots.now a.vertices.now a.count a.out.now) (across z ms)) (ring_leave_lem _ c.in-4.is (arrangement_of (on_vertices a.robots.now) z) a.r.0 a.j)
+    c.leave-in-4.ensures ∙ ap (λ (ms : List Move). made_all (world a.state.now a.count a.out.now) (across z ms)) (ring_leave_lem _ c.in-4.is (arrangement_of a.state.now z) a.r.0 a.j)
 
 pub returns-in_default : goal.returns-in_default
 returns-in_default c =
     let a = c.args in
     let z = a.zone.now in
-    c.leave-in_default.ensures ∙ ap (λ (ms : List Move). made_all (world_in a.robots.now a.vertices.now a.count a.out.now) (across z ms)) (hall_leave_lem _ c.in_default.in_default-own.rest.0.1 c.in_default.in_default-own.rest.1 (arrangement_of (on_vertices a.robots.now) z) a.r.0 a.j)
+    c.leave-in_default.ensures ∙ ap (λ (ms : List Move). made_all (world a.state.now a.count a.out.now) (across z ms)) (hall_leave_lem _ c.in_default.in_default-own.rest.0.1 c.in_default.in_default-own.rest.1 (arrangement_of a.state.now z) a.r.0 a.j)
