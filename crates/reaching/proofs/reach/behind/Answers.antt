@@ -11,7 +11,7 @@ use Rattle.reaching.proofs.reach.behind.Goals as goal
 pub loop-k-init : goal.loop-k-init
 loop-k-init c =
     let a = c.args in
-    let l = c.least-k in
+    let l = c.min-k in
     (omega (arith, l.ensures), behind_least a.state.now a.zone.now a.from a.j l.result l.ensures)
 
 pub returns-then-r : goal.returns-then-r
