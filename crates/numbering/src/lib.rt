@@ -1,6 +1,9 @@
 // Points, zones and carts are three separate numberings (document 01): a robot's number can't index a table of vertices.
 #![tactic(auto)]
 
+ghost use Rattle.std.specs.Prelude.{◌≡◌};
+ghost use Rattle.numbering.specs.Kind.{number_of, Decodes};
+
 // A point.
 #[derive(Clone, Copy, Debug, PartialEq, Eq, PartialOrd, Ord)]
 pub struct Vertex(pub u8);
@@ -12,3 +15,46 @@ pub struct Zone(pub u8);
 // A cart; 255 is no robot.
 #[derive(Clone, Copy, Debug, PartialEq, Eq, PartialOrd, Ord)]
 pub struct Robot(pub u8);
+
+// A zone's kind.
+#[derive(Clone, Copy, Debug, PartialEq, Eq)]
+pub enum ZoneKind {
+    Stack,
+    Hall,
+    Clique,
+    Ring,
+}
+
+// A number that no kind has.
+#[derive(Clone, Copy, Debug, PartialEq, Eq)]
+pub struct NoKind(pub u8);
+
+impl ZoneKind {
+    // The kind's number, as map files have it.
+    pub fn number(self) -> u8
+        ensures { result ≡ number_of self }
+    {
+        match self {
+            ZoneKind::Stack => 1,
+            ZoneKind::Hall => 2,
+            ZoneKind::Clique => 3,
+            ZoneKind::Ring => 4,
+        }
+    }
+}
+
+impl TryFrom<u8> for ZoneKind {
+    type Error = NoKind;
+
+    ghost try_from_gives = { Decodes };
+
+    fn try_from(n: u8) -> Result<Self, NoKind> {
+        match n {
+            1 => Ok(ZoneKind::Stack),
+            2 => Ok(ZoneKind::Hall),
+            3 => Ok(ZoneKind::Clique),
+            4 => Ok(ZoneKind::Ring),
+            _ => Err(NoKind(n)),
+        }
+    }
+}

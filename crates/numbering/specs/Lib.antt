@@ -1,0 +1,2 @@
+-- Numbers and what they stand for.
+pub mod Kind
