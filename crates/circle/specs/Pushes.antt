@@ -6,7 +6,7 @@ use mathlib.Core.List.{List, [], ◌∷◌, ◌++◌, map, map-append}
 use Rattle.spec.specs.Arrangement.{Arrangement, Move, mv, apply_all, seek}
 use Rattle.spec.specs.Ring.{wrap, frame, in_ring, shove, push, pushes, ahead, push_to, ring_leave}
 use Rattle.spec.specs.State.{State, robot_on, moved, moved_all, arrangement_of, across_move, across}
-use Rattle.motion.specs.World.{World, made, made_all, made_none, robots_length}
+use Rattle.motion.specs.World.{World, made, made_all, made_none, state_is, robots_length}
 use Rattle.motion.specs.Across.{made_both, made_last, across_nil, arrangement_length}
 use Rattle.motion.specs.Coupling.{Listed, Inside, none, more, inside_append, coupled, arranged}
 use Rattle.circle.specs.Places.{next_place, wrap_under, wrap_other, next_under}
@@ -85,6 +85,14 @@ unmoved_behind s w u vs n p k r f t L h l ef et e U =
         (L.once (wrap (length vs) (p + i)) (wrap (length vs) (p + q)) (wrap_under (length vs) p i h (omega arith)) (wrap_under (length vs) p q h b) d)
 
 -- ---- pushes keep to the ring
+
+-- a push keeps the length of the list of robots
+pub push_robots : (w u : World) (vs : List ℕ) (p : ℕ) → u ≡ made_all w (across vs (push (arrangement_of w.state vs) p))
+    → length u.state.robots ≡ length w.state.robots
+push_robots w u vs p e =
+    ap (λ (x : World). length x.state.robots) e
+    ∙ ap (λ (t : State). length t.robots) (state_is w (across vs (push (arrangement_of w.state vs) p)))
+    ∙ robots_length w.state (across vs (push (arrangement_of w.state vs) p))
 
 -- the moves of a run stay inside the ring
 inside_shove : (m p : ℕ) → p < m → (rs : List ℕ) (k : ℕ) → ((i : ℕ) → i < length rs → get_or rs i 0 ≢ 255) → k + length rs ≤ m

@@ -1,5 +1,6 @@
 // What can be reached in a zone of a kind.
 ghost use Rattle.std.specs.Prelude.{◌≡◌, ◌≤◌, ◌<◌, length, eqb};
+ghost use Rattle.numbering.specs.Kind.{number_of};
 ghost use Rattle.spec.specs.Outcome.{◌and◌};
 ghost use Rattle.spec.specs.Arrangement.{full, last_free};
 ghost use Rattle.spec.specs.Ring.{ring_behind};
@@ -7,7 +8,7 @@ ghost use Rattle.spec.specs.State.{arrangement_of};
 ghost use Rattle.spec.specs.ZoneKind.{behind_of, can_leave, can_enter, can_end};
 
 use motion::State;
-use numbering::Robot;
+use numbering::{Robot, ZoneKind};
 
 // "in a ring, the first cart met going backward from to, 255 if the ring is empty"
 fn behind_round(state: &State, zone: &[u8], j: usize) -> u8
@@ -22,13 +23,13 @@ fn behind_round(state: &State, zone: &[u8], j: usize) -> u8
 }
 
 // The neighbour that a step to place j names: its behind, from the lent table of the robots by vertex.
-pub fn behind_of(kind: u8, state: &State, zone: &[u8], j: usize) -> u8
+pub fn behind_of(kind: ZoneKind, state: &State, zone: &[u8], j: usize) -> u8
     requires { j < length zone.now }
-    ensures { result ≡ behind_of kind (arrangement_of state.now zone.now) j }
+    ensures { result ≡ behind_of (number_of kind) (arrangement_of state.now zone.now) j }
 {
     match kind {
-        3 => 255,
-        4 => behind_round(state, zone, j),
+        ZoneKind::Clique => 255,
+        ZoneKind::Ring => behind_round(state, zone, j),
         _ => reaching::reach::behind(state, zone, 0, j),
     }
 }
@@ -41,10 +42,10 @@ pub fn is_full(state: &State, zone: &[u8]) -> bool
 }
 
 // Does whoever enters fill a clique, so that the step has a follow list?
-pub fn fills(kind: u8, state: &State, zone: &[u8]) -> bool
-    ensures { result ≡ (eqb kind 3 and last_free (arrangement_of state.now zone.now)) }
+pub fn fills(kind: ZoneKind, state: &State, zone: &[u8]) -> bool
+    ensures { result ≡ (eqb (number_of kind) 3 and last_free (arrangement_of state.now zone.now)) }
 {
-    let is_clique = kind == 3;
+    let is_clique = kind == ZoneKind::Clique;
     if is_clique {
         return vacating::last_free(state, zone);
     }
@@ -52,19 +53,19 @@ pub fn fills(kind: u8, state: &State, zone: &[u8]) -> bool
 }
 
 // "Leaving needs a reachable arrangement with the cart at from": robot r at place j.
-pub fn can_leave(kind: u8, state: &State, zone: &[u8], r: Robot, j: usize) -> bool
-    ensures { result ≡ can_leave kind (arrangement_of state.now zone.now) r.0 j }
+pub fn can_leave(kind: ZoneKind, state: &State, zone: &[u8], r: Robot, j: usize) -> bool
+    ensures { result ≡ can_leave (number_of kind) (arrangement_of state.now zone.now) r.0 j }
 {
     match kind {
-        3 => vacating::can_leave(state, zone, r, j),
-        4 => turned::can_leave(state, zone, r, j),
+        ZoneKind::Clique => vacating::can_leave(state, zone, r, j),
+        ZoneKind::Ring => turned::can_leave(state, zone, r, j),
         _ => reaching::reach::can_leave(state, zone, r, j),
     }
 }
 
 // "Entering needs a reachable one with to empty and the named neighbour": robot r at place j of a zone that is not full.
 pub fn can_enter(
-    kind: u8,
+    kind: ZoneKind,
     state: &State,
     zone: &[u8],
     r: Robot,
@@ -73,23 +74,23 @@ pub fn can_enter(
     list: &[u8],
 ) -> bool
     requires { (length zone.now ≤ 128) × (length list.now ≤ 128) }
-    ensures { result ≡ can_enter kind (arrangement_of state.now zone.now) r.0 j behind list.now }
+    ensures { result ≡ can_enter (number_of kind) (arrangement_of state.now zone.now) r.0 j behind list.now }
 {
     match kind {
-        3 => clique::can_enter(state, zone, r, j, behind, list),
-        4 => turned::can_enter(state, zone, j, behind),
+        ZoneKind::Clique => clique::can_enter(state, zone, r, j, behind, list),
+        ZoneKind::Ring => turned::can_enter(state, zone, j, behind),
         _ => reaching::reach::can_enter(state, zone, j, behind),
     }
 }
 
 // Is the goals' arrangement in the configuration?
-pub fn can_end(kind: u8, state: &State, zone: &[u8], goals: &State) -> bool
+pub fn can_end(kind: ZoneKind, state: &State, zone: &[u8], goals: &State) -> bool
     requires { length zone.now ≤ 128 }
-    ensures { result ≡ can_end kind (arrangement_of state.now zone.now) (arrangement_of goals.now zone.now) }
+    ensures { result ≡ can_end (number_of kind) (arrangement_of state.now zone.now) (arrangement_of goals.now zone.now) }
 {
     match kind {
-        3 => clique::can_end(state, zone, goals),
-        4 => turned::can_end(state, zone, goals),
+        ZoneKind::Clique => clique::can_end(state, zone, goals),
+        ZoneKind::Ring => turned::can_end(state, zone, goals),
         _ => reaching::reach::can_end(state, zone, goals),
     }
 }

@@ -1,5 +1,6 @@
 // The moves in a zone of a kind.
 ghost use Rattle.std.specs.Prelude.{◌≡◌, true, ◌≤◌, ◌<◌, length};
+ghost use Rattle.numbering.specs.Kind.{number_of};
 ghost use Rattle.spec.specs.State.{arrangement_of, across};
 ghost use Rattle.spec.specs.ZoneKind.{can_leave, can_end};
 ghost use Rattle.theory.specs.Zones.Crossing.{Proper, extra_of};
@@ -9,11 +10,11 @@ ghost use Rattle.clique.specs.Entering.{Numbered};
 ghost use Rattle.walking.specs.Kinds.{leave_moves, enter_moves, end_moves};
 
 use motion::State;
-use numbering::Robot;
+use numbering::{Robot, ZoneKind};
 
 // The moves that bring robot r, which can leave there, to place j.
 pub fn leave(
-    kind: u8,
+    kind: ZoneKind,
     state: &mut State,
     count: usize,
     zone: &[u8],
@@ -23,19 +24,19 @@ pub fn leave(
 ) -> usize
     requires zone_len_bound { (length zone.now ≤ 128) × (j < length zone.now) }
     requires listed { Listed (length state.old.robots) zone.now }
-    requires j_value { can_leave kind (arrangement_of state.old zone.now) r.0 j ≡ true }
-    ensures { world state.new result out.new ≡ made_all (world state.old count out.old) (across zone.now (leave_moves kind (arrangement_of state.old zone.now) r.0 j)) }
+    requires j_value { can_leave (number_of kind) (arrangement_of state.old zone.now) r.0 j ≡ true }
+    ensures { world state.new result out.new ≡ made_all (world state.old count out.old) (across zone.now (leave_moves (number_of kind) (arrangement_of state.old zone.now) r.0 j)) }
 {
     match kind {
-        3 => vacating::leave(state, count, zone, r, j, out),
-        4 => ring::leave(state, count, zone, r, j, out),
+        ZoneKind::Clique => vacating::leave(state, count, zone, r, j, out),
+        ZoneKind::Ring => ring::leave(state, count, zone, r, j, out),
         _ => hall::leave(state, count, zone, r, j, out),
     }
 }
 
 // The moves that make room at place j for whoever enters there.
 pub fn enter(
-    kind: u8,
+    kind: ZoneKind,
     state: &mut State,
     count: usize,
     zone: &[u8],
@@ -48,19 +49,19 @@ pub fn enter(
     requires listed { Listed (length state.old.robots) zone.now }
     requires numbered { Numbered list.now j }
     requires proper { Proper (arrangement_of state.old zone.now) }
-    requires list_len { length list.now ≡ extra_of kind (arrangement_of state.old zone.now) }
-    ensures { world state.new result out.new ≡ made_all (world state.old count out.old) (across zone.now (enter_moves kind (arrangement_of state.old zone.now) j behind list.now)) }
+    requires list_len { length list.now ≡ extra_of (number_of kind) (arrangement_of state.old zone.now) }
+    ensures { world state.new result out.new ≡ made_all (world state.old count out.old) (across zone.now (enter_moves (number_of kind) (arrangement_of state.old zone.now) j behind list.now)) }
 {
     match kind {
-        3 => clique::enter(state, count, zone, j, list, out),
-        4 => ring::enter(state, count, zone, j, behind, out),
+        ZoneKind::Clique => clique::enter(state, count, zone, j, list, out),
+        ZoneKind::Ring => ring::enter(state, count, zone, j, behind, out),
         _ => hall::enter(state, count, zone, j, behind, out),
     }
 }
 
 // The moves that bring the robots to their goals, which can be reached.
 pub fn bring_to_goals(
-    kind: u8,
+    kind: ZoneKind,
     state: &mut State,
     count: usize,
     zone: &[u8],
@@ -69,13 +70,13 @@ pub fn bring_to_goals(
 ) -> usize
     requires zone_len_bound { length zone.now ≤ 128 }
     requires listed { Listed (length state.old.robots) zone.now }
-    requires zone_value { can_end kind (arrangement_of state.old zone.now) (arrangement_of goals.now zone.now) ≡ true }
+    requires zone_value { can_end (number_of kind) (arrangement_of state.old zone.now) (arrangement_of goals.now zone.now) ≡ true }
     requires proper { Proper (arrangement_of state.old zone.now) }
-    ensures { world state.new result out.new ≡ made_all (world state.old count out.old) (across zone.now (end_moves kind (arrangement_of state.old zone.now) (arrangement_of goals.now zone.now))) }
+    ensures { world state.new result out.new ≡ made_all (world state.old count out.old) (across zone.now (end_moves (number_of kind) (arrangement_of state.old zone.now) (arrangement_of goals.now zone.now))) }
 {
     match kind {
-        3 => clique::bring_to_goals(state, count, zone, goals, out),
-        4 => ring::end(state, count, zone, goals, out),
+        ZoneKind::Clique => clique::bring_to_goals(state, count, zone, goals, out),
+        ZoneKind::Ring => ring::end(state, count, zone, goals, out),
         _ => hall::end(state, count, zone, goals, out),
     }
 }

@@ -16,7 +16,7 @@ decreases-loop-k l = length l.zone - l.k
 
 abbrev pub invariant-loop-k-2 : goal.invariant-loop-k-2
 invariant-loop-k-2 l =
-    (length l.state.robots ≡ length l.initial.state.robots) × (length l.vertices ≡ length l.initial.vertices) × (length l.out ≡ length l.initial.out) × (l.m ≡ length l.zone) × (l.k ≤ length l.zone)
+    (l.m ≡ length l.zone) × (l.k ≤ length l.zone)
     × (l.k ≤ length (run_at l.initial.state l.zone l.p)) × (l.to ≡ wrap (length l.zone) (l.p + l.k))
     × (world l.state l.count l.out ≡ made_all (world l.initial.state l.count-2 l.initial.out) (across l.zone (push_from l.initial.state l.zone l.p l.k)))
     × Unmoved l.initial.state l.state l.zone l.p l.k

@@ -8,7 +8,7 @@ use Rattle.circle.proofs.pushing.push_times.Given as goal
 
 abbrev pub invariant-loop-left : goal.invariant-loop-left
 invariant-loop-left l =
-    (length l.state.robots ≡ length l.initial.state.robots) × (length l.vertices ≡ length l.initial.vertices) × (length l.out ≡ length l.initial.out) × (l.at < length l.zone)
+    (length l.state.robots ≡ length l.initial.state.robots) × (l.at < length l.zone)
     × (made_all (world l.state l.count l.out) (across l.zone (pushes l.left (arrangement_of l.state l.zone) l.at)) ≡ made_all (world l.initial.state l.count-2 l.initial.out) (across l.zone (pushes l.n (arrangement_of l.initial.state l.zone) l.p)))
 
 abbrev pub decreases-loop-left : goal.decreases-loop-left

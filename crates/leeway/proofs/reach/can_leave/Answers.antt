@@ -1,12 +1,13 @@
-use mathlib.Core.Path.{◌∙◌}
+use Rattle.numbering.specs.Kind.{number_of, not_clique, not_ring}
+use mathlib.Core.Path.{◌∙◌, ap}
 use Rattle.walking.specs.Kinds.{clique_can_leave_lem, ring_can_leave_lem, hall_can_leave_lem}
 use Rattle.leeway.proofs.reach.can_leave.Goals as goal
 
-pub returns-in-3 : goal.returns-in-3
-returns-in-3 c = c.can_leave.ensures ∙ clique_can_leave_lem _ c.in-3.is _ _ _
+pub returns-in-Clique : goal.returns-in-Clique
+returns-in-Clique c = c.can_leave.ensures ∙ clique_can_leave_lem _ (ap number_of c.in-Clique.is) _ _ _
 
-pub returns-in-4 : goal.returns-in-4
-returns-in-4 c = c.can_leave-in-4.ensures ∙ ring_can_leave_lem _ c.in-4.is _ _ _
+pub returns-in-Ring : goal.returns-in-Ring
+returns-in-Ring c = c.can_leave-in-Ring.ensures ∙ ring_can_leave_lem _ (ap number_of c.in-Ring.is) _ _ _
 
 pub returns-in_default : goal.returns-in_default
-returns-in_default c = c.can_leave-in_default.ensures ∙ hall_can_leave_lem _ c.in_default.in_default-own.rest.0.1 c.in_default.in_default-own.rest.1 _ _ _
+returns-in_default c = c.can_leave-in_default.ensures ∙ hall_can_leave_lem _ (not_clique _ c.in_default.not-Clique) (not_ring _ c.in_default.not-Ring) _ _ _

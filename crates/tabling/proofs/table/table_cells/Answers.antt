@@ -22,9 +22,6 @@ bounds-cells-k c = omega arith
 pub index_of-i-requires : goal.index_of-i-requires
 index_of-i-requires c = tt
 
-pub put_cell-requires : goal.put_cell-requires
-put_cell-requires c = tt
-
 pub loop-k-smaller : goal.loop-k-smaller
 loop-k-smaller c = omega arith
 

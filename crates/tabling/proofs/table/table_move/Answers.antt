@@ -9,9 +9,6 @@ index_of-k-requires c = tt
 pub cell_at-i-requires : goal.cell_at-i-requires
 cell_at-i-requires c = tt
 
-pub put_cell-requires : goal.put_cell-requires
-put_cell-requires c = tt
-
 pub index_of-requires : goal.index_of-requires
 index_of-requires c = tt
 

@@ -1,3 +1,4 @@
+use Rattle.numbering.specs.Kind.{number_of, not_clique, not_ring}
 use Rattle.walking.specs.Kinds.{clique_end_lem, ring_end_lem, hall_end_lem, ring_can_end_lem}
 use Rattle.motion.specs.World.{world, made_all}
 use Rattle.spec.specs.State.{across, arrangement_of}
@@ -10,22 +11,22 @@ pub bring_to_goals-requires : goal.bring_to_goals-requires
 bring_to_goals-requires c = record { zone_len_bound = c.requires.zone_len_bound; distinct = c.requires.proper.once }
 
 pub end-requires : goal.end-requires
-end-requires c = record { zone_len_bound = c.requires.zone_len_bound; listed = c.requires.listed; zone_value = ring_can_end_lem _ c.in-4.is _ _ ∙ c.requires.zone_value }
+end-requires c = record { zone_len_bound = c.requires.zone_len_bound; listed = c.requires.listed; zone_value = ring_can_end_lem _ (ap number_of c.in-Ring.is) _ _ ∙ c.requires.zone_value }
 
-pub returns-in-3 : goal.returns-in-3
-returns-in-3 c =
+pub returns-in-Clique : goal.returns-in-Clique
+returns-in-Clique c =
     let a = c.args in
     let z = a.zone.now in
-    c.bring_to_goals.ensures ∙ ap (λ (ms : List Move). made_all (world a.state.now a.count a.out.now) (across z ms)) (clique_end_lem _ c.in-3.is (arrangement_of a.state.now z) (arrangement_of a.goals.now z))
+    c.bring_to_goals.ensures ∙ ap (λ (ms : List Move). made_all (world a.state.now a.count a.out.now) (across z ms)) (clique_end_lem _ (ap number_of c.in-Clique.is) (arrangement_of a.state.now z) (arrangement_of a.goals.now z))
 
-pub returns-in-4 : goal.returns-in-4
-returns-in-4 c =
+pub returns-in-Ring : goal.returns-in-Ring
+returns-in-Ring c =
     let a = c.args in
     let z = a.zone.now in
-    c.end.ensures ∙ ap (λ (ms : List Move). made_all (world a.state.now a.count a.out.now) (across z ms)) (ring_end_lem _ c.in-4.is (arrangement_of a.state.now z) (arrangement_of a.goals.now z))
+    c.end.ensures ∙ ap (λ (ms : List Move). made_all (world a.state.now a.count a.out.now) (across z ms)) (ring_end_lem _ (ap number_of c.in-Ring.is) (arrangement_of a.state.now z) (arrangement_of a.goals.now z))
 
 pub returns-in_default : goal.returns-in_default
 returns-in_default c =
     let a = c.args in
     let z = a.zone.now in
-    c.end-in_default.ensures ∙ ap (λ (ms : List Move). made_all (world a.state.now a.count a.out.now) (across z ms)) (hall_end_lem _ c.in_default.in_default-own.rest.0.1 c.in_default.in_default-own.rest.1 (arrangement_of a.state.now z) (arrangement_of a.goals.now z))
+    c.end-in_default.ensures ∙ ap (λ (ms : List Move). made_all (world a.state.now a.count a.out.now) (across z ms)) (hall_end_lem _ (not_clique _ c.in_default.not-Clique) (not_ring _ c.in_default.not-Ring) (arrangement_of a.state.now z) (arrangement_of a.goals.now z))

@@ -1,3 +1,4 @@
+use Rattle.numbering.specs.Kind.{number_of, not_clique, not_ring}
 use mathlib.Core.Path.{ap, ◌∙◌}
 use mathlib.Core.List.{List}
 use Prim.Native.Nat.{ℕ}
@@ -13,24 +14,24 @@ pub enter-requires : goal.enter-requires
 enter-requires c =
     let p = c.args in
     let f = c.requires in
-    let e = f.list_len ∙ ap (λ (k : ℕ). extra_of k (arrangement_of p.state.now p.zone.now)) c.in-3.is in
+    let e = f.list_len ∙ ap (λ (k : ℕ). extra_of k (arrangement_of p.state.now p.zone.now)) (ap number_of c.in-Clique.is) in
     let d = f.proper.once in
     search rules
 
-pub returns-in-3 : goal.returns-in-3
-returns-in-3 c =
+pub returns-in-Clique : goal.returns-in-Clique
+returns-in-Clique c =
     let a = c.args in
     let z = a.zone.now in
-    c.enter.ensures ∙ ap (λ (ms : List Move). made_all (world a.state.now a.count a.out.now) (across z ms)) (clique_enter_lem _ c.in-3.is (arrangement_of a.state.now z) a.j a.behind a.list.now)
+    c.enter.ensures ∙ ap (λ (ms : List Move). made_all (world a.state.now a.count a.out.now) (across z ms)) (clique_enter_lem _ (ap number_of c.in-Clique.is) (arrangement_of a.state.now z) a.j a.behind a.list.now)
 
-pub returns-in-4 : goal.returns-in-4
-returns-in-4 c =
+pub returns-in-Ring : goal.returns-in-Ring
+returns-in-Ring c =
     let a = c.args in
     let z = a.zone.now in
-    c.enter-in-4.ensures ∙ ap (λ (ms : List Move). made_all (world a.state.now a.count a.out.now) (across z ms)) (ring_enter_lem _ c.in-4.is (arrangement_of a.state.now z) a.j a.behind a.list.now)
+    c.enter-in-Ring.ensures ∙ ap (λ (ms : List Move). made_all (world a.state.now a.count a.out.now) (across z ms)) (ring_enter_lem _ (ap number_of c.in-Ring.is) (arrangement_of a.state.now z) a.j a.behind a.list.now)
 
 pub returns-in_default : goal.returns-in_default
 returns-in_default c =
     let a = c.args in
     let z = a.zone.now in
-    c.enter-in_default.ensures ∙ ap (λ (ms : List Move). made_all (world a.state.now a.count a.out.now) (across z ms)) (hall_enter_lem _ c.in_default.in_default-own.rest.0.1 c.in_default.in_default-own.rest.1 (arrangement_of a.state.now z) a.j a.behind a.list.now)
+    c.enter-in_default.ensures ∙ ap (λ (ms : List Move). made_all (world a.state.now a.count a.out.now) (across z ms)) (hall_enter_lem _ (not_clique _ c.in_default.not-Clique) (not_ring _ c.in_default.not-Ring) (arrangement_of a.state.now z) a.j a.behind a.list.now)
