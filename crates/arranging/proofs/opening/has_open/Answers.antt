@@ -10,9 +10,6 @@ bounds-cells-i c = omega arith
 pub bounds-goal-i : goal.bounds-goal-i
 bounds-goal-i c = omega arith
 
-pub is_seen-seen-requires : goal.is_seen-seen-requires
-is_seen-seen-requires c = tt
-
 pub overflow_add-i : goal.overflow_add-i
 overflow_add-i c = omega arith
 

@@ -2,9 +2,6 @@ use Rattle.std.proofs.Common.{sym}
 use Rattle.theory.specs.Basics.Tests.{of_true}
 use Rattle.arranging.proofs.opening.is_seen.Goals as goal
 
-pub is_open-requires : goal.is_open-requires
-is_open-requires c = tt
-
 pub returns-then-is_open : goal.returns-then-is_open
 returns-then-is_open c = λ e. absurd (of_true (sym e))
 

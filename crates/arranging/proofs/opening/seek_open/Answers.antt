@@ -2,9 +2,6 @@ use Rattle.std.proofs.Common.{refl, ◌∙◌, arith}
 use Rattle.arranging.specs.Toward.{open_here, open_further, open_end}
 use Rattle.arranging.proofs.opening.seek_open.Goals as goal
 
-pub least-n-requires : goal.least-n-requires
-least-n-requires c = tt
-
 pub loop-i-init : goal.loop-i-init
 loop-i-init c = (c.min-n.ensures, refl)
 
@@ -13,9 +10,6 @@ bounds-cells-i c = omega arith
 
 pub bounds-goal-i : goal.bounds-goal-i
 bounds-goal-i c = omega arith
-
-pub is_open-requires : goal.is_open-requires
-is_open-requires c = tt
 
 pub returns-then-is_open : goal.returns-then-is_open
 returns-then-is_open c =

@@ -5,9 +5,6 @@ use Rattle.theory.specs.Maps.Cells.{cell_none}
 use Rattle.arranging.specs.Toward.{off_earlier, off_end}
 use Rattle.arranging.proofs.toward.lowest_off.Goals as goal
 
-pub least-k-requires : goal.least-k-requires
-least-k-requires c = tt
-
 pub loop-k-init : goal.loop-k-init
 loop-k-init c = (search rules, cell_none refl ∙ off_end c.args.cells.now c.args.goal.now c.min-k.result (omega (arith, c.min-k.ensures)))
 
@@ -19,9 +16,6 @@ bounds-cells-k c = omega arith
 
 pub bounds-goal-k : goal.bounds-goal-k
 bounds-goal-k c = omega arith
-
-pub lower_off-best-requires : goal.lower_off-best-requires
-lower_off-best-requires c = tt
 
 pub loop-k-smaller : goal.loop-k-smaller
 loop-k-smaller c = omega arith
@@ -35,9 +29,6 @@ loop-k-preserved c =
       off_earlier a.cells.now a.goal.now (o.k - 1) (cell_of o.best) _ (omega arith)
           (o.invariant.1 ∙ ap (λ (i : ℕ). lowest_off (drop i a.cells.now) (drop i a.goal.now)) (sym d)) c.lower_off-best.ensures,
     )
-
-pub cell_of-requires : goal.cell_of-requires
-cell_of-requires c = tt
 
 pub returns : goal.returns
 returns c =

@@ -13,12 +13,6 @@ use native.Mathlib.Omega.{arith}
 use Rattle.spec.specs.Clique.{clique_to}
 use Rattle.clique.proofs.ending.end_in.Goals as goal
 
-pub cells_of-requires : goal.cells_of-requires
-cells_of-requires c = tt
-
-pub cells_of-requires-2 : goal.cells_of-requires-2
-cells_of-requires-2 c = tt
-
 pub overflow_mul-n : goal.overflow_mul-n
 overflow_mul-n c = omega arith
 

@@ -24,9 +24,6 @@ returns-then-list-gt0 c =
     ∙ ap (λ (ms : List Move). made_all (world p.state.now p.count p.out.now) (across z ms))
     (enter_fill (arrangement_of s z) 0 p.j 0 p.list.now (length z) (extra_fill (arrangement_of s z) (length p.list.now) c.requires.zone_len_bound.1 c.if-list-gt0.true).0 (sym (arrangement_length s z)))
 
-pub make_room-requires : goal.make_room-requires
-make_room-requires c = tt
-
 pub returns : goal.returns
 returns c =
     let p = c.args in
