@@ -1,18 +1,20 @@
 -- The edges of a map, read into the rows.
 use Prim.Native.Nat.{ℕ, zero, suc, ◌+◌, ◌-◌, ◌*◌, ◌≤◌, ◌<◌}
-use Rattle.std.specs.Prelude.{◌≡◌, Bool, true, false, List, [], ◌∷◌, ◌++◌, length, get_or, eqb, ltb, leb}
+use Rattle.std.specs.Prelude.{◌≡◌, Option, Some, None, Result, Ok, Err, OnOk, if◌then◌else◌, nat_lt, Bool, true, false, List, [], ◌∷◌, ◌++◌, length, get_or, eqb, ltb, leb}
 use Rattle.std.proofs.Math.Path.{refl}
 use Rattle.std.proofs.Common.{ap, ap₂, sym, ◌∙◌, add-one}
 use borrow.Author.Tests.{lt-ltb, le-ltb, le-leb, lt-leb, eq-eqb, ne_eqb, ltb-true, ltb-false}
 use native.Mathlib.Omega.{arith}
-use Rattle.spec.specs.Outcome.{Outcome, ok, refuse, ◌>>=◌, ◌>>◌, check, ◌and◌}
+use Rattle.spec.specs.Outcome.{ok, refuse, ◌>>=◌, ◌>>◌, check, ◌and◌}
 use Rattle.spec.specs.Layout as layout
 use Rattle.spec.specs.Layout.{Edge, read_edges, edges_of}
+use Rattle.theory.specs.Basics.Outcomes.{bind}
 use Rattle.wire.specs.Payload.{place_of, word_at}
 use Rattle.adjacency.specs.Rows.{join, join_all, rows_snoc, Shows, shows_more, both}
 use Rattle.zoning.specs.declared.MapFault.{MapFault}
-use Rattle.zoning.specs.declared.MapFault.TheVariants.{None, Short, Range}
-use Rattle.zoning.specs.Fault.{answered, sound_of, not_both, given, handed, relayed}
+use Rattle.zoning.specs.declared.MapFault.TheVariants.{Short, Range, Listing}
+use Rattle.zoning.specs.Chain.{refused}
+use Rattle.zoning.specs.Fault.{number_of, fault_place, answered}
 use Rattle.zoning.specs.Bytes.{held, held_size, no_byte, a_byte, no_word, a_word}
 
 -- a pair of payload bytes of which the first stands at `at`: where the second stands, and where the next pair begins
@@ -36,22 +38,29 @@ pub record GoingEdges (file : List ℕ) (m n e from : ℕ) (before rows : List (
   pub rest : read_edges n (held file m) e from 0 [] ≡ read_edges n (held file m) (e - k) (from + k * 2) least (edges_at file from k)
 
 -- e edges are read and entered, or refused
-pub record EdgesAre (file : List ℕ) (m n e from : ℕ) (before rows : List (List ℕ)) (f : MapFault) : Type 0 where
-  pub answer : read_edges n (held file m) e from 0 [] ≡ answered f (edges_at file from e)
-  pub entered : sound_of f ≡ true → rows ≡ join_all before (edges_at file from e)
-  pub shown : sound_of f ≡ true → Shows before [] → Shows rows (edges_at file from e)
+pub record EdgesAre (file : List ℕ) (m n e from : ℕ) (before rows : List (List ℕ)) (r : Result (Unit {0}) MapFault) : Type 0 where
+  pub answer : read_edges n (held file m) e from 0 [] ≡ answered (λ _. edges_at file from e) r
+  pub entered : OnOk r (rows ≡ join_all before (edges_at file from e))
+  pub shown : OnOk r (Shows before [] → Shows rows (edges_at file from e))
 
--- the tests at offset o before the edge count is read: does every vertex have a zone, and are the count's two bytes there
-pub record CountAt (covered there : Bool) (o : ℕ) (f : MapFault) : Type 0 where
-  pub answer : (file : List ℕ) (m : ℕ) → there ≡ ltb (o + 1) m → (check covered 17 o >> layout.word_at 15 (held file m) o) ≡ answered f (word_at file o)
-  pub passed : sound_of f ≡ true → (covered ≡ true) × (there ≡ true)
+-- the edge count at offset o, where its two bytes are there
+abbrev pub count_of : List ℕ → ℕ → ℕ → Option ℕ
+count_of file m o = if nat_lt (o + 1) m then Some (word_at file o) else None
+
+-- a count that is there
+pub counted : (file : List ℕ) (m o e : ℕ) → count_of file m o ≡ Some e → (o + 1 < m) × (e ≡ word_at file o)
+counted file m o e h = go (nat_lt (o + 1) m) refl h
+  where
+    go : (b : Bool) → nat_lt (o + 1) m ≡ b → ◌≡◌ {A = Option ℕ} (if b then Some (word_at file o) else None) (Some e) → (o + 1 < m) × (e ≡ word_at file o)
+    go true h e = (ltb-true (o + 1) m h, cc)
+    go false h e = cc
 
 -- the edges of a map whose zones list every vertex or not are read and entered, or refused
-pub record EdgesFound (file : List ℕ) (m n : ℕ) (covered : Bool) (o : ℕ) (before rows : List (List ℕ)) (f : MapFault) : Type 0 where
-  pub answer : (check covered 17 o >> edges_of n (held file m) o) ≡ answered f (edges_at file (o + 2) (word_at file o))
-  pub read : sound_of f ≡ true → read_edges n (held file m) (word_at file o) (o + 2) 0 [] ≡ ok (edges_at file (o + 2) (word_at file o))
-  pub entered : sound_of f ≡ true → rows ≡ join_all before (edges_at file (o + 2) (word_at file o))
-  pub shown : sound_of f ≡ true → Shows before [] → Shows rows (edges_at file (o + 2) (word_at file o))
+pub record EdgesFound (file : List ℕ) (m n : ℕ) (covered : Bool) (o : ℕ) (before rows : List (List ℕ)) (r : Result (Unit {0}) MapFault) : Type 0 where
+  pub answer : (check covered 17 o >> edges_of n (held file m) o) ≡ answered (λ _. edges_at file (o + 2) (word_at file o)) r
+  pub read : OnOk r (read_edges n (held file m) (word_at file o) (o + 2) 0 [] ≡ ok (edges_at file (o + 2) (word_at file o)))
+  pub entered : OnOk r (rows ≡ join_all before (edges_at file (o + 2) (word_at file o)))
+  pub shown : OnOk r (Shows before [] → Shows rows (edges_at file (o + 2) (word_at file o)))
 
 edges_more : (file : List ℕ) (o k : ℕ) → edges_at file o (k + 1) ≡ edges_at file o k ++ (edge_at file (o + k * 2) ∷ [])
 unfolding edges_at
@@ -151,96 +160,76 @@ edges_start file m n e from before = record {
     a2 : from ≡ from + 0 * 2
     a2 = omega arith
 
-pub edges_end : (file : List ℕ) (m n e from : ℕ) (before rows : List (List ℕ)) (k least : ℕ) → GoingEdges file m n e from before rows k least → k ≡ e
-    → EdgesAre file m n e from before rows None
+-- all are read
+pub edges_end : (file : List ℕ) (m n e from : ℕ) (before rows : List (List ℕ)) (least : ℕ) → GoingEdges file m n e from before rows e least → EdgesAre file m n e from before rows (Ok tt)
 unfolding read_edges
-edges_end file m n e from before rows k least g h = rw (← h) (record {
-  answer = answer·;
-  entered = λ _. g.entered;
-  shown = λ _. g.shown;
-})
-  where
-    z : k - k ≡ 0
-    z = omega arith
+edges_end file m n e from before rows least g =
+    let z : e - e ≡ 0 = omega arith in
+    record {
+      answer = g.rest ∙ ap (λ (x : ℕ). read_edges n (held file m) x (from + e * 2) least (edges_at file from e)) z;
+      entered = g.entered;
+      shown = g.shown;
+    }
 
-    answer· : read_edges n (held file m) k from 0 [] ≡ ok (edges_at file from k)
-    answer· =
-        ap (λ (x : ℕ). read_edges n (held file m) x from 0 []) h ∙ g.rest
-        ∙ ap (λ (x : ℕ). read_edges n (held file m) (x - k) (from + k * 2) least (edges_at file from k)) (sym h)
-        ∙ ap (λ (x : ℕ). read_edges n (held file m) x (from + k * 2) least (edges_at file from k)) z
-
-pub edges_refused : (file : List ℕ) (m n e from : ℕ) (before rows : List (List ℕ)) (f : MapFault) → sound_of f ≡ false
-    → read_edges n (held file m) e from 0 [] ≡ answered f (edges_at file from e) → EdgesAre file m n e from before rows f
-edges_refused file m n e from before rows f s w = record { answer = w; entered = λ t. not_both t s; shown = λ t. not_both t s }
+pub edges_refused : (file : List ℕ) (m n e from : ℕ) (before rows : List (List ℕ)) (f : MapFault) → read_edges n (held file m) e from 0 [] ≡ refuse (number_of f) (fault_place f) → EdgesAre file m n e from before rows (Err f)
+edges_refused file m n e from before rows f w = record { answer = w; entered = tt; shown = tt }
 
 -- ---- the count before, the end behind
 
--- some vertex is in no zone, whatever comes after
-pub uncovered : {A : Type 0} (covered : Bool) (o : ℕ) (w : Outcome A) → covered ≡ false → (check covered 17 o >> w) ≡ refuse 17 o
-unfolding check ◌>>◌
-uncovered covered o w h = rw h
-
--- every vertex has a zone: the count's bytes are not there, or are
-module _ (covered there : Bool) (o : ℕ) (all : covered ≡ true) (file : List ℕ) (m : ℕ) (e : there ≡ ltb (o + 1) m) where
-  pub count_cut : there ≡ false → (check covered 17 o >> layout.word_at 15 (held file m) o) ≡ refuse 15 o
-  unfolding check ◌>>◌
-  count_cut w = rw all (no_word file m 15 o (ltb-false (o + 1) m (sym e ∙ w)))
-
-  pub count_read : there ≡ true → (check covered 17 o >> layout.word_at 15 (held file m) o) ≡ ok (word_at file o)
-  unfolding check ◌>>◌
-  count_read w = rw all (a_word file m 15 o (ltb-true (o + 1) m (sym e ∙ w)))
-
--- a refusal before the count is read is that of the edges
-early : (n : ℕ) (p : List ℕ) (covered : Bool) (o : ℕ) (f : MapFault) (x : ℕ) (es : List Edge) → sound_of f ≡ false → (check covered 17 o >> layout.word_at 15 p o) ≡ answered f x
-    → (check covered 17 o >> edges_of n p o) ≡ answered f es
-unfolding check ◌>>◌ ◌>>=◌ edges_of
-early n p true o f x es s e = relayed (layout.word_at 15 p o) f x _ es e s
-early n p false o f x es s e = relayed (refuse 17 o) f x (λ _. ok es) es e s
-
 module _ (file : List ℕ) (m n : ℕ) (covered : Bool) (o : ℕ) (before rows : List (List ℕ)) where
-  found_fault : (f : MapFault) → sound_of f ≡ false → (check covered 17 o >> edges_of n (held file m) o) ≡ answered f (edges_at file (o + 2) (word_at file o)) → EdgesFound file m n covered o before rows f
-  found_fault f s w = record { answer = w; read = λ t. not_both t s; entered = λ t. not_both t s; shown = λ t. not_both t s }
+  found_fault : (f : MapFault) → (check covered 17 o >> edges_of n (held file m) o) ≡ refuse (number_of f) (fault_place f) → EdgesFound file m n covered o before rows (Err f)
+  found_fault f w = record { answer = w; read = tt; entered = tt; shown = tt }
 
-  -- refused before the count is read
-  pub count_refused : (there : Bool) → there ≡ ltb (o + 1) m → (f : MapFault) → CountAt covered there o f → sound_of f ≡ false → EdgesFound file m n covered o before rows f
-  count_refused there h f g s = found_fault f s (early n (held file m) covered o f (word_at file o) (edges_at file (o + 2) (word_at file o)) s (g.answer file m h))
+  -- some vertex is in no zone, whatever comes after
+  pub uncovered : covered ≡ false → EdgesFound file m n covered o before rows (Err (Listing o))
+  unfolding check ◌>>◌
+  uncovered h = found_fault (Listing o) (rw h)
 
-  module _ (pass : covered ≡ true) (there : o + 1 < m) where
+  module _ (pass : covered ≡ true) where
     passed : (check covered 17 o >> edges_of n (held file m) o) ≡ edges_of n (held file m) o
     unfolding check ◌>>◌
     passed = rw pass
 
-    count_over : 2048 < word_at file o → edges_of n (held file m) o ≡ refuse 16 o
-    unfolding edges_of ◌>>=◌ ◌>>◌ check
-    count_over h = rw (edges_of, a_word file m 15 o there, lt-leb (word_at file o) 2048 h)
+    -- every vertex has a zone, and the count's bytes are not there
+    pub count_cut : count_of file m o ≡ None → EdgesFound file m n covered o before rows (Err (Short o))
+    unfolding edges_of
+    count_cut e = found_fault (Short o) (passed ∙ refused (layout.word_at 15 (held file m) o) 15 o _ (no_word file m 15 o (go (nat_lt (o + 1) m) refl e)))
+      where
+        go : (b : Bool) → nat_lt (o + 1) m ≡ b → ◌≡◌ {A = Option ℕ} (if b then Some (word_at file o) else None) None → m ≤ o + 1
+        go true h e = cc
+        go false h e = ltb-false (o + 1) m h
 
-    -- there are more edges than a map may have
-    pub edges_many : 2048 < word_at file o → EdgesFound file m n covered o before rows (Range o)
-    edges_many h = found_fault (Range o) refl (passed ∙ count_over h)
-
-    module _ (few : word_at file o ≤ 2048) (f : MapFault) (a : EdgesAre file m n (word_at file o) (o + 2) before rows f) where
-      step : edges_of n (held file m) o ≡ (read_edges n (held file m) (word_at file o) (o + 2) 0 [] >>= (λ es. check (eqb (o + 2 + word_at file o * 2) (length (held file m))) 15 (o + 2 + word_at file o * 2) >> ok es))
+    module _ (there : o + 1 < m) where
+      count_over : 2048 < word_at file o → edges_of n (held file m) o ≡ refuse 16 o
       unfolding edges_of ◌>>=◌ ◌>>◌ check
-      step = rw (edges_of, a_word file m 15 o there, le-leb (word_at file o) 2048 few)
+      count_over h = rw (edges_of, a_word file m 15 o there, lt-leb (word_at file o) 2048 h)
 
-      pub edges_fault : sound_of f ≡ false → EdgesFound file m n covered o before rows f
-      edges_fault s = found_fault f s
-          (passed ∙ step ∙ relayed (read_edges n (held file m) (word_at file o) (o + 2) 0 []) f (edges_at file (o + 2) (word_at file o)) _ (edges_at file (o + 2) (word_at file o)) a.answer s)
+      -- there are more edges than a map may have
+      pub edges_many : 2048 < word_at file o → EdgesFound file m n covered o before rows (Err (Range o))
+      edges_many h = found_fault (Range o) (passed ∙ count_over h)
 
-      module _ (s : sound_of f ≡ true) where
-        last : (check covered 17 o >> edges_of n (held file m) o) ≡ (check (eqb (o + 2 + word_at file o * 2) (length (held file m))) 15 (o + 2 + word_at file o * 2) >> ok (edges_at file (o + 2) (word_at file o)))
-        last = passed ∙ step ∙ handed (read_edges n (held file m) (word_at file o) (o + 2) 0 []) f (edges_at file (o + 2) (word_at file o)) _ a.answer s
+      module _ (few : word_at file o ≤ 2048) where
+        step : edges_of n (held file m) o ≡ (read_edges n (held file m) (word_at file o) (o + 2) 0 [] >>= (λ es. check (eqb (o + 2 + word_at file o * 2) (length (held file m))) 15 (o + 2 + word_at file o * 2) >> ok es))
+        unfolding edges_of ◌>>=◌ ◌>>◌ check
+        step = rw (edges_of, a_word file m 15 o there, le-leb (word_at file o) 2048 few)
 
-        -- bytes are left
-        pub edges_surplus : (o + 2 + word_at file o * 2 ≡ m → ⊥) → EdgesFound file m n covered o before rows (Short (o + 2 + word_at file o * 2))
-        unfolding check ◌>>◌
-        edges_surplus d = found_fault (Short (o + 2 + word_at file o * 2)) refl (last ∙ rw (held_size file m, ne_eqb (o + 2 + word_at file o * 2) m d))
+        pub edges_fault : (f : MapFault) → EdgesAre file m n (word_at file o) (o + 2) before rows (Err f) → EdgesFound file m n covered o before rows (Err f)
+        edges_fault f a = found_fault f (passed ∙ step ∙ refused (read_edges n (held file m) (word_at file o) (o + 2) 0 []) (number_of f) (fault_place f) _ a.answer)
 
-        pub edges_whole : o + 2 + word_at file o * 2 ≡ m → EdgesFound file m n covered o before rows None
-        unfolding check ◌>>◌
-        edges_whole d = record {
-          answer = last ∙ rw (held_size file m, eq-eqb (o + 2 + word_at file o * 2) m d);
-          read = λ t. given (read_edges n (held file m) (word_at file o) (o + 2) 0 []) f (edges_at file (o + 2) (word_at file o)) a.answer s;
-          entered = λ t. a.entered s;
-          shown = λ t. a.shown s;
-        }
+        module _ (a : EdgesAre file m n (word_at file o) (o + 2) before rows (Ok tt)) where
+          last : (check covered 17 o >> edges_of n (held file m) o) ≡ (check (eqb (o + 2 + word_at file o * 2) (length (held file m))) 15 (o + 2 + word_at file o * 2) >> ok (edges_at file (o + 2) (word_at file o)))
+          last = passed ∙ step ∙ bind (read_edges n (held file m) (word_at file o) (o + 2) 0 []) (edges_at file (o + 2) (word_at file o)) _ a.answer
+
+          -- bytes are left
+          pub edges_surplus : (o + 2 + word_at file o * 2 ≡ m → ⊥) → EdgesFound file m n covered o before rows (Err (Short (o + 2 + word_at file o * 2)))
+          unfolding check ◌>>◌
+          edges_surplus d = found_fault (Short (o + 2 + word_at file o * 2)) (last ∙ rw (held_size file m, ne_eqb (o + 2 + word_at file o * 2) m d))
+
+          pub edges_whole : o + 2 + word_at file o * 2 ≡ m → EdgesFound file m n covered o before rows (Ok tt)
+          unfolding check ◌>>◌
+          edges_whole d = record {
+            answer = last ∙ rw (held_size file m, eq-eqb (o + 2 + word_at file o * 2) m d);
+            read = a.answer;
+            entered = a.entered;
+            shown = a.shown;
+          }

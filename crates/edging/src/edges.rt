@@ -1,6 +1,6 @@
 // The edges of a map, entered into the rows.
-ghost use Rattle.std.specs.Prelude.{◌≡◌, ◌+◌, ◌-◌, ◌/◌, ◌≤◌, min, ltb};
-ghost use Rattle.edging.specs.Edges.{PlacesAre, EdgesAre, CountAt, EdgesFound};
+ghost use Rattle.std.specs.Prelude.{◌≡◌, ◌+◌, ◌≤◌, ◌<◌, IfSome};
+ghost use Rattle.edging.specs.Edges.{PlacesAre, count_of, EdgesAre, EdgesFound};
 
 use wire::next_place;
 use zoning::MapFault;
@@ -25,27 +25,10 @@ fn places(at: usize) -> Pair
     }
     let behind = next_place(at);
     let next = next_place(behind);
-    Pair {
-        behind: behind,
-        next: next,
-    }
+    Pair { behind, next }
 }
 
-// How many of e pairs of bytes, from offset `from` on, stand whole in a payload of m bytes.
-fn whole_pairs(e: usize, from: usize, m: usize) -> usize
-    ensures { result ≡ min e ((m - from) / 2) }
-{
-    if m <= from {
-        return 0;
-    }
-    let most = (m - from) / 2;
-    if most < e {
-        return most;
-    }
-    e
-}
-
-// Reads e edges from offset `from` on.
+// Reads e edges from offset `from` on: those that stand whole in the payload of m bytes, then the test that there are e.
 fn read_edges(
     file: &[u8],
     m: usize,
@@ -53,72 +36,49 @@ fn read_edges(
     e: usize,
     from: usize,
     rows: &mut [[u64; 2]; 128],
-) -> MapFault
+) -> Result<(), MapFault>
     requires { (n ≤ 128) × (e ≤ 2048) × (from ≤ 65536) }
     ensures { EdgesAre file.now m n e from rows.old rows.new result }
 {
-    let whole = whole_pairs(e, from, m);
+    let whole = e.min(m.saturating_sub(from) / 2);
     let mut at = from / 504 * 512 + 6 + from % 504;
-    let mut k: usize = 0;
     let mut least: usize = 0;
-    while k < whole {
+    for k in 0..whole {
         let o = from + k * 2;
-        let pair = places(at);
-        let behind = pair.behind;
+        let Pair { behind, next } = places(at);
         if behind >= file.len() {
-            return MapFault::Edge(o);
+            return Err(MapFault::Edge(o));
         }
         let a = file[at];
         let b = file[behind];
-        if b <= a {
-            return MapFault::Edge(o);
-        }
-        if b as usize >= n {
-            return MapFault::Edge(o);
-        }
         let key = a as usize * 256 + b as usize;
-        if key < least {
-            return MapFault::Edge(o);
+        if b <= a || b as usize >= n || key < least {
+            return Err(MapFault::Edge(o));
         }
         adjacency::add_edge(rows, numbering::Vertex(a), numbering::Vertex(b));
-        at = pair.next;
+        at = next;
         least = key + 1;
-        k += 1;
     }
-    if k >= e {
-        return MapFault::None;
+    if whole == e {
+        return Ok(());
     }
-    let end = from + k * 2;
+    let end = from + whole * 2;
     if end >= m {
-        return MapFault::Short(end);
+        return Err(MapFault::Short(end));
     }
-    MapFault::Short(end + 1)
+    Err(MapFault::Short(end + 1))
 }
 
-// Does the payload of m bytes hold two bytes at offset o?
-fn holds_word(m: usize, o: usize) -> bool
+// The two-byte number at offset o of a payload of m bytes; none where the payload ends before.
+fn word(file: &[u8], m: usize, o: usize) -> Option<usize>
     requires { m ≤ 65000 }
-    ensures { result ≡ ltb (o + 1) m }
+    ensures value { result ≡ count_of file.now m o }
+    ensures inside { IfSome result (λ _. o + 1 < m) }
 {
-    if o >= m {
-        return false;
+    if o < m && o + 1 < m {
+        return Some(wire::payload_word(file, o));
     }
-    o + 1 < m
-}
-
-// The tests before the edge count is read, in order: every vertex has a zone; the count's two bytes are there.
-fn before_count(covered: bool, there: bool, o: usize) -> MapFault
-    ensures { CountAt covered there o result }
-{
-    let uncovered = !covered;
-    if uncovered {
-        return MapFault::Listing(o);
-    }
-    let cut = !there;
-    if cut {
-        return MapFault::Short(o);
-    }
-    MapFault::None
+    None
 }
 
 // Reads the edge count at offset o, where the zones list every vertex, and the edges behind it, to the payload's end.
@@ -129,26 +89,22 @@ pub fn edges_of(
     covered: bool,
     o: usize,
     rows: &mut [[u64; 2]; 128],
-) -> MapFault
+) -> Result<(), MapFault>
     requires { (n ≤ 128) × (m ≤ 65000) }
     ensures { EdgesFound file.now m n covered o rows.old rows.new result }
 {
-    let there = holds_word(m, o);
-    let early = before_count(covered, there, o);
-    if !zoning::sound(early) {
-        return early;
+    let uncovered = !covered;
+    if uncovered {
+        return Err(MapFault::Listing(o));
     }
-    let e = wire::payload_word(file, o);
+    let e = word(file, m, o).ok_or(MapFault::Short(o))?;
     if e > 2048 {
-        return MapFault::Range(o);
+        return Err(MapFault::Range(o));
     }
-    let fault = read_edges(file, m, n, e, o + 2, rows);
-    if !zoning::sound(fault) {
-        return fault;
-    }
+    read_edges(file, m, n, e, o + 2, rows)?;
     let end = o + 2 + e * 2;
     if end != m {
-        return MapFault::Short(end);
+        return Err(MapFault::Short(end));
     }
-    MapFault::None
+    Ok(())
 }

@@ -1,5 +1,5 @@
 -- What callers have of a map that was read: its rows, its tables and its zones are those of the definition's map.
-use Rattle.std.specs.Prelude.{ℕ, ◌+◌, ◌≤◌, ◌<◌, ◌≡◌, true, List, length, get_or}
+use Rattle.std.specs.Prelude.{ℕ, ◌+◌, ◌≤◌, ◌<◌, ◌≡◌, Ok, List, length, get_or}
 use Rattle.std.proofs.Common.{ap, sym, ◌∙◌, arith}
 use Rattle.spec.specs.Outcome.{Outcome, ok, index_of}
 use Rattle.spec.specs.Wire.{payload_of}
@@ -8,12 +8,11 @@ use Rattle.theory.specs.Basics.Outcomes.{bound}
 use Rattle.theory.specs.Maps.Layout as theory
 use Rattle.adjacency.specs.Rows.{bit_at, shows_joined}
 use Rattle.kinds.specs.Shape.{part_length, part_at}
-use Rattle.layout.specs.declared.MapRead.{MapRead}
-use Rattle.zoning.specs.Fault.{sound_of, given}
+use Rattle.layout.specs.declared.MapTables.{MapTables}
 use Rattle.layout.specs.Map.{map_in, map_or, MapIs}
 use Rattle.layout.specs.Tables.{entry_of, entry_is}
 
-module _ (outcome : Outcome Map) (r : MapRead) (rows : List (List ℕ)) (a : MapIs outcome r rows) where
+module _ (outcome : Outcome Map) (r : MapTables) (rows : List (List ℕ)) (a : MapIs outcome (Ok r) rows) where
   -- the rows say which vertices the map joins
   pub rows_joined : (u v : ℕ) → bit_at rows u v ≡ joined (map_or outcome) u v
   unfolding joined
@@ -43,10 +42,8 @@ module _ (outcome : Outcome Map) (r : MapRead) (rows : List (List ℕ)) (a : Map
     vertex_entry i l = entry_is 128 0 r.listed (get_or r.first z 0 + i) a.tables.long_listed
         ∙ sym (part_at r.listed (get_or r.first z 0) (get_or r.size z 0) fits i l) ∙ sym (ap (λ q. get_or q.vertices i 0) (a.tables.zone_at_lem z low))
 
--- a file's map with no fault is accepted
-pub file_accepted : (file : List ℕ) (r : MapRead) (rows : List (List ℕ)) → MapIs (map_in file) r rows → sound_of r.fault ≡ true
-    → (map_in file ≡ ok (map_or (map_in file))) × theory.Accepted (map_or (map_in file))
-file_accepted file r rows a s =
-    let e = given (map_in file) r.fault (map_or (map_in file)) a.answer s in
-    let p = bound (payload_of 10 1 9 file) map_of (map_or (map_in file)) e in
-    (e, theory.map_accepted p.0 (map_or (map_in file)) p.2)
+-- a file's map that was read is accepted
+pub file_accepted : (file : List ℕ) (r : MapTables) (rows : List (List ℕ)) → MapIs (map_in file) (Ok r) rows → (map_in file ≡ ok (map_or (map_in file))) × theory.Accepted (map_or (map_in file))
+file_accepted file r rows a =
+    let p = bound (payload_of 10 1 9 file) map_of (map_or (map_in file)) a.answer in
+    (a.answer, theory.map_accepted p.0 (map_or (map_in file)) p.2)

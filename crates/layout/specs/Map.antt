@@ -1,20 +1,18 @@
 -- The whole map: what was read is the map that the definition gives.
-use Rattle.std.specs.Prelude.{ℕ, ◌+◌, ◌*◌, ◌/◌, ◌≤◌, ◌<◌, ◌≡◌, refl, true, false, List, [], length, get_or, take, drop, replicate}
-use Rattle.std.proofs.Common.{ap, sym, ◌∙◌, arith}
+use Rattle.std.specs.Prelude.{ℕ, ◌+◌, ◌*◌, ◌/◌, ◌≤◌, ◌<◌, ◌≡◌, refl, Result, Ok, Err, IfOk, OnOk, is_err, true, false, List, [], length, get_or, take, drop}
+use Rattle.std.proofs.Common.{ap, sym, ◌∙◌}
 use Rattle.spec.specs.Outcome.{Outcome, ok, refuse, ◌>>=◌, index_of}
 use Rattle.spec.specs.Wire.{payload_of}
-use Rattle.spec.specs.Layout.{Map, Edge, map_of, zone_from, zone_of, zone_at}
-use Rattle.theory.specs.Basics.Lists.{get_d_uniform}
+use Rattle.spec.specs.Layout.{Map, Edge, map_of, zone_of, zone_at}
 use Rattle.wire.specs.Payload.{payload}
 use Rattle.adjacency.specs.Rows.{blank, rows_of, join_all, Shows, shows_none}
 use Rattle.zoning.specs.declared.MapFault.{MapFault}
-use Rattle.zoning.specs.declared.MapFault.TheVariants.{None}
-use Rattle.zoning.specs.declared.ZonesRead.{ZonesRead}
-use Rattle.layout.specs.declared.MapRead.{MapRead}
-use Rattle.zoning.specs.Fault.{answered, sound_of, not_both, given, refused}
+use Rattle.zoning.specs.declared.Zones.{Zones}
+use Rattle.layout.specs.declared.MapTables.{MapTables}
+use Rattle.zoning.specs.Fault.{number_of, fault_place, answered}
 use Rattle.zoning.specs.Bytes.{held, held_payload}
 use Rattle.zoning.specs.Zones.{zones_length, zones_at, place_from}
-use Rattle.zoning.specs.Found.{ZonesAre, heads_of, zones_are}
+use Rattle.zoning.specs.Found.{ZonesAre, heads_of}
 use Rattle.layout.specs.Kinds.{zone_some}
 use Rattle.layout.specs.Rest.{map_at, rest_of, edges_in, RestIs}
 
@@ -31,7 +29,7 @@ map_or (ok m) = m
 map_or (refuse number place) = no_map
 
 -- what a map that was read holds of the definition's map
-pub record MapHeld (r : MapRead) (m : Map) : Type 0 where
+pub record MapHeld (r : MapTables) (m : Map) : Type 0 where
   pub size : r.vertices ≡ m.size
   pub small : r.vertices ≤ 128
   pub count : r.zones ≡ length m.zones
@@ -50,43 +48,28 @@ pub record MapHeld (r : MapRead) (m : Map) : Type 0 where
   pub long_zone : length r.zone ≡ 128
   pub long_place : length r.place ≡ 128
 
--- a fault, and nothing read
-pub record Nothing (f : MapFault) (r : MapRead) : Type 0 where
-  pub fault_is : r.fault ≡ f
-  pub tables : MapHeld r no_map
+-- what is read of a payload, and the rows where it is a map
+pub record LayoutIs (outcome : Outcome Map) (r : Result MapTables MapFault) (rows : List (List ℕ)) : Type 0 where
+  pub answer : outcome ≡ answered (λ _. map_or outcome) r
+  pub tables : IfOk r (λ t. MapHeld t (map_or outcome))
+  pub entered : OnOk r (rows ≡ rows_of (map_or outcome).edges)
+  pub shown : OnOk r (Shows rows (map_or outcome).edges)
 
--- what is read of a payload, and the rows where there is no fault
-pub record LayoutIs (outcome : Outcome Map) (r : MapRead) (rows : List (List ℕ)) : Type 0 where
-  pub answer : outcome ≡ answered r.fault (map_or outcome)
-  pub tables : MapHeld r (map_or outcome)
-  pub entered : sound_of r.fault ≡ true → rows ≡ rows_of (map_or outcome).edges
-  pub shown : sound_of r.fault ≡ true → Shows rows (map_or outcome).edges
-
--- what is read of a file: the map that the definition gives, or its refusal and the map of no vertices
-pub record MapIs (outcome : Outcome Map) (r : MapRead) (rows : List (List ℕ)) : Type 0 where
-  pub answer : outcome ≡ answered r.fault (map_or outcome)
-  pub tables : MapHeld r (map_or outcome)
+-- what is read of a file: the map that the definition gives, or its refusal and the rows of the map of no vertices
+pub record MapIs (outcome : Outcome Map) (r : Result MapTables MapFault) (rows : List (List ℕ)) : Type 0 where
+  pub answer : outcome ≡ answered (λ _. map_or outcome) r
+  pub tables : IfOk r (λ t. MapHeld t (map_or outcome))
   pub entered : rows ≡ rows_of (map_or outcome).edges
   pub shown : Shows rows (map_or outcome).edges
 
 -- ---- the map
 
--- the outcome of a refusal
-pub nothing_is : (outcome : Outcome Map) (f : MapFault) (b : Map) (r : MapRead) (rows : List (List ℕ)) → outcome ≡ answered f b → sound_of f ≡ false → Nothing f r → LayoutIs outcome r rows
-nothing_is outcome f b r rows e s w =
-    let q = refused f s in
-    let x : outcome ≡ refuse q.number q.place = e ∙ q.is b in
-    let none : no_map ≡ map_or outcome = ap map_or (sym x) in
-    record {
-      answer = x ∙ sym (q.is (map_or outcome)) ∙ ap (λ (g : MapFault). answered g (map_or outcome)) (sym w.fault_is);
-      tables = rw none at w.tables;
-      entered = λ t. not_both t (ap sound_of w.fault_is ∙ s);
-      shown = λ t. not_both t (ap sound_of w.fault_is ∙ s);
-    }
+-- a refusal
+pub layout_refused : (outcome : Outcome Map) (f : MapFault) (rows : List (List ℕ)) → outcome ≡ refuse (number_of f) (fault_place f) → LayoutIs outcome (Err f) rows
+layout_refused outcome f rows e = record { answer = e; tables = tt; entered = tt; shown = tt }
 
-abbrev pub made : ℕ → ℕ → ZonesRead → MapRead
+abbrev pub made : ℕ → ℕ → Zones → MapTables
 made n z t = record {
-  fault = None;
   vertices = n;
   zones = z;
   kind = t.kind;
@@ -97,86 +80,55 @@ made n z t = record {
   place = t.place;
 }
 
-made_held : (p : List ℕ) (n z : ℕ) (t : ZonesRead) (es : List Edge) → n ≤ 128 → z ≤ 64 → ZonesAre p n z t → sound_of t.fault ≡ true → MapHeld (made n z t) (map_at n t z es)
+made_held : (p : List ℕ) (n z : ℕ) (t : Zones) (es : List Edge) → n ≤ 128 → z ≤ 64 → ZonesAre p n z (Ok t) → MapHeld (made n z t) (map_at n t z es)
 unfolding zone_of zone_at place_from
-made_held p n z t es small few found zoned = record {
+made_held p n z t es small few found = record {
   size = refl;
   small = small;
   count = sym (zones_length (heads_of t) t.listed z);
   few = few;
   zone_at_lem = λ j l. zones_at (heads_of t) t.listed z j l;
-  some = λ j l. zone_some p n z small few (heads_of t) t.listed t.zone t.place t.next (zones_are p n z small t found zoned) (found.tables zoned) j l;
-  inside = (found.tables zoned).inside;
-  zone_of_lem = (found.tables zoned).zoned;
-  place_of_lem = (found.tables zoned).placed;
-  long_kind = (found.tables zoned).long_kind;
-  long_first = (found.tables zoned).long_first;
-  long_size = (found.tables zoned).long_size;
-  long_listed = (found.tables zoned).long_listed;
-  long_zone = (found.tables zoned).long_zone;
-  long_place = (found.tables zoned).long_place;
+  some = λ j l. zone_some p n z small few (heads_of t) t.listed t.zone t.place t.next found.answer found.tables j l;
+  inside = found.tables.inside;
+  zone_of_lem = found.tables.zoned;
+  place_of_lem = found.tables.placed;
+  long_kind = found.tables.long_kind;
+  long_first = found.tables.long_first;
+  long_size = found.tables.long_size;
+  long_listed = found.tables.long_listed;
+  long_zone = found.tables.long_zone;
+  long_place = found.tables.long_place;
 }
 
--- the outcome of an accepted map
-pub made_is : (file : List ℕ) (m n z : ℕ) (t : ZonesRead) → n ≤ 128 → z ≤ 64 → ZonesAre (held file m) n z t → sound_of t.fault ≡ true
-    → (outcome : Outcome Map) → outcome ≡ rest_of (held file m) n t z → (rows : List (List ℕ)) (f : MapFault) → RestIs file m n t z rows f → sound_of f ≡ true → LayoutIs outcome (made n z t) rows
-made_is file m n z t small few found zoned outcome e rows f rest s =
-    let x : outcome ≡ ok (map_at n t z (edges_in file t)) = e ∙ given (rest_of (held file m) n t z) f (map_at n t z (edges_in file t)) rest.answer s in
+-- an accepted map
+pub layout_made : (file : List ℕ) (m n z : ℕ) (t : Zones) → n ≤ 128 → z ≤ 64 → ZonesAre (held file m) n z (Ok t) → (outcome : Outcome Map) → outcome ≡ rest_of (held file m) n t z → (rows : List (List ℕ))
+    → RestIs file m n t z rows (Ok tt) → LayoutIs outcome (Ok (made n z t)) rows
+layout_made file m n z t small few found outcome e rows rest =
+    let x : outcome ≡ ok (map_at n t z (edges_in file t)) = e ∙ rest.answer in
     let it : map_at n t z (edges_in file t) ≡ map_or outcome = ap map_or (sym x) in
     let es : edges_in file t ≡ (map_or outcome).edges = ap (λ (m : Map). m.edges) it in
     record {
       answer = x ∙ ap (λ (m : Map). ok m) it;
-      tables = rw it at (made_held (held file m) n z t (edges_in file t) small few found zoned);
-      entered = λ _. rest.entered s ∙ ap (λ (m : Map). rows_of m.edges) it;
-      shown = λ _. rw es at (rest.shown s);
+      tables = rw it at (made_held (held file m) n z t (edges_in file t) small few found);
+      entered = rest.entered ∙ ap (λ (m : Map). rows_of m.edges) it;
+      shown = rw es at rest.shown;
     }
-
--- nothing is read of a map that is refused
-pub none_held : (f : MapFault) → MapHeld (record {
-  fault = f;
-  vertices = 0;
-  zones = 0;
-  kind = replicate 64 0;
-  first = replicate 64 0;
-  size = replicate 64 0;
-  listed = replicate 128 0;
-  zone = replicate 128 255;
-  place = replicate 128 0;
-}) no_map
-unfolding zone_of zone_from zone_at index_of
-none_held f = record {
-  size = refl;
-  small = omega arith;
-  count = refl;
-  few = omega arith;
-  zone_at_lem = λ (j : ℕ) (l : j < 0). absurd (omega arith);
-  some = λ (j : ℕ) (l : j < 0). absurd (omega arith);
-  inside = λ (j : ℕ) (l : j < 0). absurd (omega arith);
-  zone_of_lem = λ v. get_d_uniform 128 v 255;
-  place_of_lem = λ v. get_d_uniform 128 v 0;
-  long_kind = refl;
-  long_first = refl;
-  long_size = refl;
-  long_listed = refl;
-  long_zone = refl;
-  long_place = refl;
-}
 
 -- ---- the rows
 
--- a map that is read
-pub read_is : (outcome : Outcome Map) (r : MapRead) (rows : List (List ℕ)) → LayoutIs outcome r rows → sound_of r.fault ≡ true → MapIs outcome r rows
-read_is outcome r rows l s = record { answer = l.answer; tables = l.tables; entered = l.entered s; shown = l.shown s }
+-- a map that is read, and one that is refused, with the rows cleared
+pub map_is : (outcome : Outcome Map) (r : Result MapTables MapFault) (rows : List (List ℕ)) → is_err r ≡ false → LayoutIs outcome r rows → MapIs outcome r rows
+map_is outcome (Ok t) rows e l = record { answer = l.answer; tables = l.tables; entered = l.entered; shown = l.shown }
+map_is outcome (Err f) rows e l = cc
 
--- one that is refused, with the rows cleared
-pub cleared_is : (outcome : Outcome Map) (r : MapRead) (rows last : List (List ℕ)) → LayoutIs outcome r rows → sound_of r.fault ≡ false → last ≡ blank → MapIs outcome r last
+pub cleared_is : (outcome : Outcome Map) (r : Result MapTables MapFault) (rows last : List (List ℕ)) → is_err r ≡ true → LayoutIs outcome r rows → last ≡ blank → MapIs outcome r last
 unfolding join_all
-cleared_is outcome r rows last l s k =
-    let q = refused r.fault s in
-    let none : no_map ≡ map_or outcome = ap map_or (sym (l.answer ∙ q.is (map_or outcome))) in
+cleared_is outcome (Ok t) rows last e l k = cc
+cleared_is outcome (Err f) rows last e l k =
+    let none : no_map ≡ map_or outcome = ap map_or (sym l.answer) in
     record {
       answer = l.answer;
-      tables = l.tables;
+      tables = tt;
       entered = k ∙ ap (λ (m : Map). rows_of m.edges) none;
       shown = rw (k, ← none) shows_none;
     }

@@ -8,14 +8,12 @@ pub mod map;
 pub mod tables;
 
 pub use map::read_map;
-pub use tables::{place_of, vertex_at, zone_entry, zone_of};
-use zoning::MapFault;
+pub use tables::{entry, place_of, vertex_at, zone_entry, zone_of};
 
-// A map, or why it is refused. Zone z has the kind kind[z] and the vertices listed[first[z]] to listed[first[z] + size[z] - 1];
-// vertex v stands in zone zone[v] at place place[v].
+// A map. Zone z has the kind kind[z] and the vertices listed[first[z]] to listed[first[z] + size[z] - 1]; vertex v stands in zone
+// zone[v] at place place[v].
 #[derive(Clone, Copy)]
-pub struct MapRead {
-    pub fault: MapFault,
+pub struct MapTables {
     pub vertices: u8,
     pub zones: u8,
     pub kind: [u8; 64],

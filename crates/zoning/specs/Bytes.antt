@@ -1,9 +1,10 @@
 -- The bytes of a payload as they are read from the file, and a field read from them.
-use Rattle.std.specs.Prelude.{ℕ, zero, suc, ◌+◌, ◌*◌, ◌/◌, ◌≤◌, ◌<◌, ◌≡◌, refl, List, [], ◌∷◌, length, get_or, take}
+use Rattle.std.specs.Prelude.{ℕ, zero, suc, ◌+◌, ◌*◌, ◌/◌, ◌≤◌, ◌<◌, ◌≡◌, refl, List, [], ◌∷◌, length, get_or, take, Option, Some, None, Ok, Err}
 use Rattle.std.proofs.Common.{ap, sym, ◌∙◌, ext_get_or}
+use Rattle.std.specs.Option.{ok_or}
 use borrow.Author.Tests.{lt-ltb, le-ltb}
 use native.Mathlib.Omega.{arith}
-use Rattle.spec.specs.Outcome.{ok, refuse}
+use Rattle.spec.specs.Outcome.{Outcome, ok, refuse}
 use Rattle.spec.specs.Wire.{word}
 use Rattle.spec.specs.Layout.{byte_at, word_at}
 use Rattle.wire.specs.Payload.{payload, place_of, held_length, held_byte}
@@ -12,6 +13,11 @@ use Rattle.wire.specs.Payload.{payload, place_of, held_length, held_byte}
 unfoldable pub bytes_from : List ℕ → ℕ → ℕ → List ℕ
 bytes_from file o zero = []
 bytes_from file o (suc count) = get_or file (place_of o) 0 ∷ bytes_from file (o + 1) count
+
+-- a byte that was found, or the refusal of its offset
+abbrev pub found : ℕ → ℕ → Option ℕ → Outcome ℕ
+found r o (Some v) = ok v
+found r o None = refuse r o
 
 -- the first m payload bytes of a file
 abbrev pub held : List ℕ → ℕ → List ℕ
@@ -61,3 +67,22 @@ module _ (file : List ℕ) (m : ℕ) where
   a_word r o h =
       let q : o < m = omega arith in
       rw (word_at, lt-ltb (o + 1) (length (held file m)) (omega (arith, held_size)), held_at o q, held_at (o + 1) h)
+
+-- ---- what an option says that a fault stands for where there is none
+
+pub some_given : {A F : Type 0} (b : Option A) (f : F) (v : A) → Ok v ≡ ok_or b f → b ≡ Some v
+some_given (Some x) f v e = cc
+some_given None f v e = cc
+
+pub none_given : {A F : Type 0} (b : Option A) (f x : F) → Err x ≡ ok_or b f → (b ≡ None) × (x ≡ f)
+none_given (Some y) f x e = cc
+none_given None f x e = (refl, cc)
+
+module _ {F : Type 0} (p : List ℕ) (o : ℕ) (b : Option ℕ) (is : (r : ℕ) → byte_at r p o ≡ found r o b) (f : F) where
+  -- a byte that was found
+  pub present : (v : ℕ) → Ok v ≡ ok_or b f → (r : ℕ) → byte_at r p o ≡ ok v
+  present v e r = is r ∙ ap (found r o) (some_given b f v e)
+
+  -- one that was not, and its fault
+  pub missing : (x : F) → Err x ≡ ok_or b f → ((r : ℕ) → byte_at r p o ≡ refuse r o) × (x ≡ f)
+  missing x e = let w = none_given b f x e in (λ r. is r ∙ ap (found r o) w.0, w.1)

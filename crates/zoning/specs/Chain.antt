@@ -1,31 +1,36 @@
--- Readings in a chain, for any type of faults: one that gives a value hands it on, and one that is refused ends the chain.
-use Rattle.std.specs.Prelude.{ℕ, ◌≡◌}
-use Rattle.std.proofs.Math.Path.{ap, sym}
-use Rattle.std.proofs.Common.{◌∙◌}
-use Rattle.spec.specs.Outcome.{Outcome, ok, refuse, ◌>>=◌, ◌>>◌}
+-- Results in the words of document 01, and chains of them, for any type of faults with their numbers and places.
+use Rattle.std.specs.Prelude.{ℕ, ◌≡◌, refl, Bool, true, false, Result, Ok, Err}
+use Rattle.spec.specs.Outcome.{Outcome, ok, refuse, ◌>>=◌, ◌>>◌, check}
 
--- a fault's number and place, whatever was to be read
-pub record Refused {F : Type 0} (answer : (A : Type 0) → F → A → Outcome A) (f : F) : Type 1 where
-  pub number : ℕ
-  pub place : ℕ
-  pub is : {A : Type 0} (a : A) → answer A f a ≡ refuse number place
+-- what was read, or the number and place of the refusal
+abbrev pub outcome_of : {F A B : Type 0} → (F → ℕ) → (F → ℕ) → (A → B) → Result A F → Outcome B
+outcome_of number place f (Ok a) = ok (f a)
+outcome_of number place f (Err e) = refuse (number e) (place e)
 
-module _ {F : Type 0} (answer : (A : Type 0) → F → A → Outcome A) {A B : Type 0} (o : Outcome A) (f : F) (a : A) (e : o ≡ answer A f a) where
-  -- a step that gives a value hands it on
-  pub hand : answer A f a ≡ ok a → (g : A → Outcome B) → (o >>= g) ≡ g a
-  unfolding ◌>>=◌
-  hand w g = rw (e, w)
-
+module _ {A B : Type 0} where
   -- a step that is refused ends the chain
-  pub relay : Refused answer f → (g : A → Outcome B) (b : B) → (o >>= g) ≡ answer B f b
+  pub refused : (o : Outcome A) (n p : ℕ) (g : A → Outcome B) → o ≡ refuse n p → (o >>= g) ≡ refuse n p
   unfolding ◌>>=◌
-  relay r g b = ap (λ (x : Outcome A). x >>= g) (e ∙ r.is a) ∙ sym (r.is b)
+  refused o n p g e = rw e
 
   -- the same where the value is not used
-  pub hand_on : answer A f a ≡ ok a → (g : Outcome B) → (o >> g) ≡ g
+  pub refused_on : (o : Outcome A) (n p : ℕ) (g : Outcome B) → o ≡ refuse n p → (o >> g) ≡ refuse n p
   unfolding ◌>>◌
-  hand_on w g = rw (e, w)
+  refused_on o n p g e = rw e
 
-  pub relay_on : Refused answer f → (g : Outcome B) (b : B) → (o >> g) ≡ answer B f b
-  unfolding ◌>>◌
-  relay_on r g b = ap (λ (x : Outcome A). x >> g) (e ∙ r.is a) ∙ sym (r.is b)
+  -- what follows matters only at the value
+  pub same_rest : (o : Outcome A) (f g : A → Outcome B) → ((a : A) → f a ≡ g a) → (o >>= f) ≡ (o >>= g)
+  unfolding ◌>>=◌
+  same_rest (ok a) f g h = h a
+  same_rest (refuse n p) f g h = refl
+
+  -- a value and its test might as well be one step
+  pub tested : (o : Outcome A) (test : A → Bool) (n p : ℕ) (g : A → Outcome B)
+      → (o >>= (λ a. check (test a) n p >> g a)) ≡ ((o >>= (λ a. check (test a) n p >> ok a)) >>= g)
+  unfolding ◌>>=◌ ◌>>◌ check
+  tested (refuse m q) test n p g = refl
+  tested (ok a) test n p g = go (test a)
+    where
+      go : (b : Bool) → (check b n p >> g a) ≡ ((check b n p >> ok a) >>= g)
+      go true = refl
+      go false = refl

@@ -1,21 +1,24 @@
 -- What the zones are once they are read: the arrays hold them, and every vertex has a zone or not.
-use Rattle.std.specs.Prelude.{ℕ, ◌+◌, ◌≤◌, ◌<◌, ◌≡◌, true, false, not, List, [], length, get_or, eqb}
+use Rattle.std.specs.Prelude.{ℕ, ◌+◌, ◌≤◌, ◌<◌, ◌≡◌, zero, suc, refl, Bool, true, false, ◌&&◌, Result, IfOk, not, List, [], ◌∷◌, length, take, get_or, eqb}
 use Rattle.std.proofs.Common.{ap, sym, ◌∙◌, arith}
-use Rattle.spec.specs.Outcome.{ok, member, below}
+use Rattle.std.proofs.Math.Seq.{take-suc}
+use Rattle.std.proofs.lemmas.List.Folds.{list_all-append}
+use Rattle.std.specs.List.{list_all}
+use Rattle.spec.specs.Outcome.{member, below}
 use Rattle.spec.specs.Layout.{Zone, Read, read_zones, listed, zone_from}
 use Rattle.theory.specs.Basics.Lists.{get_d_default}
 use Rattle.kinds.specs.Tests.{below_same}
 use Rattle.zoning.specs.declared.MapFault.{MapFault}
-use Rattle.zoning.specs.declared.ZonesRead.{ZonesRead}
-use Rattle.zoning.specs.Fault.{answered, sound_of, not_both, given}
-use Rattle.zoning.specs.Table.{Table}
+use Rattle.zoning.specs.declared.Zones.{Zones}
+use Rattle.zoning.specs.declared.reading.Listing.{Listing}
+use Rattle.zoning.specs.Fault.{answered}
 use Rattle.zoning.specs.Zones.{Heads, zones_in, place_from}
 use Rattle.zoning.specs.Reading.{GoingAll}
 
-abbrev pub heads_of : ZonesRead → Heads
+abbrev pub heads_of : Zones → Heads
 heads_of r = record { kind = r.kind; first = r.first; size = r.size }
 
-abbrev pub zones_read : ZonesRead → ℕ → Read (List Zone)
+abbrev pub zones_read : Zones → ℕ → Read (List Zone)
 zones_read r c = record { it = zones_in (heads_of r) r.listed c; next = r.next }
 
 -- the arrays hold c zones, and the tables say the zone and place of each vertex
@@ -32,16 +35,12 @@ pub record ZonesHeld (h : Heads) (l zone place : List ℕ) (c : ℕ) : Type 0 wh
   pub long_size : length h.size ≡ 64
 
 -- the zones are read, or refused
-pub record ZonesAre (p : List ℕ) (n z : ℕ) (r : ZonesRead) : Type 0 where
-  pub answer : read_zones n p z 2 [] [] ≡ answered r.fault (zones_read r z)
-  pub tables : sound_of r.fault ≡ true → ZonesHeld (heads_of r) r.listed r.zone r.place z
+pub record ZonesAre (p : List ℕ) (n z : ℕ) (r : Result Zones MapFault) : Type 0 where
+  pub answer : read_zones n p z 2 [] [] ≡ answered (λ t. zones_read t z) r
+  pub tables : IfOk r (λ t. ZonesHeld (heads_of t) t.listed t.zone t.place z)
 
--- a refusal needs no tables
-pub zones_refused : (p : List ℕ) (n z : ℕ) (r : ZonesRead) (f : MapFault) → r.fault ≡ f → sound_of f ≡ false → read_zones n p z 2 [] [] ≡ answered f (zones_read r z) → ZonesAre p n z r
-zones_refused p n z r f e s w = record { answer = w ∙ ap (λ (g : MapFault). answered g (zones_read r z)) (sym e); tables = λ t. not_both t (ap sound_of e ∙ s) }
-
-pub all_held : (file : List ℕ) (m n z : ℕ) (h : Heads) (t : Table) (i o : ℕ) → GoingAll file m n z h t i o → i ≡ z → ZonesHeld h t.listed t.zone t.place z
-all_held file m n z h t i o a e = rw (← e) (record {
+pub all_held : (p : List ℕ) (n z : ℕ) (h : Heads) (t : Listing) (i o : ℕ) → GoingAll p n z h t i o → i ≡ z → ZonesHeld h t.listed t.zone t.place z
+all_held p n z h t i o a e = rw (← e) (record {
   inside = λ j l. let x = a.inside j l in omega (arith, a.rep.room);
   zoned = a.zoned;
   placed = a.placed;
@@ -54,12 +53,22 @@ all_held file m n z h t i o a e = rw (← e) (record {
   long_size = a.long_size;
 })
 
-module _ (p : List ℕ) (n z : ℕ) (small : n ≤ 128) (r : ZonesRead) (a : ZonesAre p n z r) (s : sound_of r.fault ≡ true) where
-  -- the zones that were read
-  pub zones_are : read_zones n p z 2 [] [] ≡ ok (zones_read r z)
-  zones_are = given (read_zones n p z 2 [] []) r.fault (zones_read r z) a.answer s
+-- a vertex is listed if it has a zone
+pub cover_is : (n z : ℕ) (t : Zones) → n ≤ 128 → ZonesHeld (heads_of t) t.listed t.zone t.place z
+    → below (λ v. member v (listed (zones_in (heads_of t) t.listed z))) n ≡ below (λ v. not (eqb (get_or t.zone v 0) 255)) n
+cover_is n z t small held = below_same (λ v. member v (listed (zones_in (heads_of t) t.listed z))) (λ v. not (eqb (get_or t.zone v 0) 255)) n
+    (λ v h. held.marks v ∙ ap (λ (x : ℕ). not (eqb x 255)) (get_d_default t.zone v 255 0 (omega (arith, held.long_zone))))
 
-  -- a vertex is listed if it has a zone
-  pub cover_is : below (λ v. member v (listed (zones_in (heads_of r) r.listed z))) n ≡ below (λ v. not (eqb (get_or r.zone v 0) 255)) n
-  cover_is = below_same (λ v. member v (listed (zones_in (heads_of r) r.listed z))) (λ v. not (eqb (get_or r.zone v 0) 255)) n
-      (λ v h. (a.tables s).marks v ∙ ap (λ (x : ℕ). not (eqb x 255)) (get_d_default r.zone v 255 0 (omega (arith, (a.tables s).long_zone))))
+-- a test of each of a list's first n numbers
+pub below_list : (f : ℕ → Bool) (l : List ℕ) (n : ℕ) → n ≤ length l → below (λ v. f (get_or l v 0)) n ≡ list_all f (take n l)
+unfolding below
+below_list f l zero h = refl
+below_list f l (suc n) h =
+    ap (λ (b : Bool). elim (f (get_or l n 0)) [ true ↦ b | false ↦ false ]) (below_list f l n (omega arith)) ∙ last (list_all f (take n l)) (f (get_or l n 0))
+    ∙ sym (ap (list_all f) (take-suc l n 0 (omega arith)) ∙ list_all-append f (take n l) (get_or l n 0 ∷ []))
+  where
+    last : (a b : Bool) → elim b [ true ↦ a | false ↦ false ] ≡ (a && (b && true))
+    last true true = refl
+    last true false = refl
+    last false true = refl
+    last false false = refl

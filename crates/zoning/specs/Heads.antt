@@ -1,42 +1,41 @@
 -- The counts of a map, and a zone's head, read step by step.
-use Rattle.std.specs.Prelude.{ℕ, zero, suc, ◌+◌, ◌≤◌, ◌<◌, ◌≡◌, refl, Bool, true, false, List, get_or, eqb, leb}
-use Rattle.std.proofs.Common.{ap, sym, leb→le, arith}
-use borrow.Author.Tests.{le-leb, lt-leb}
-use Rattle.spec.specs.Outcome.{ok, refuse, ◌>>=◌, ◌>>◌, check, ◌and◌}
-use Rattle.spec.specs.Layout.{Head, Counts, read_head, counts_of, least_size}
+use Rattle.std.specs.Prelude.{ℕ, ◌+◌, ◌≤◌, ◌<◌, ◌≡◌, refl, ◌⊎◌, Bool, true, false, Option, Some, None, List, eqb, leb}
+use Rattle.std.proofs.Common.{ap, sym, ◌∙◌, inl, inr, leb→le, arith}
+use borrow.Author.Tests.{le-leb, lt-leb, ne_eqb}
+use Rattle.spec.specs.Outcome.{Outcome, ok, refuse, ◌>>=◌, ◌>>◌, check, ◌and◌}
+use Rattle.spec.specs.Layout as layout
+use Rattle.spec.specs.Layout.{byte_at, read_head, counts_of, least_size}
 use Rattle.theory.specs.Basics.Tests.{and_right}
-use Rattle.theory.specs.Basics.Outcomes.{ok_injective, passed, bound}
-use Rattle.wire.specs.Payload.{place_of}
-use Rattle.zoning.specs.declared.HeadRead.{HeadRead}
-use Rattle.zoning.specs.declared.CountsRead.{CountsRead}
-use Rattle.zoning.specs.Bytes.{held, no_byte, a_byte}
+use Rattle.theory.specs.Basics.Outcomes.{ok_injective, passed, bound, bind}
+use Rattle.zoning.specs.declared.Head.{Head}
+use Rattle.zoning.specs.declared.Counts.{Counts}
+use Rattle.zoning.specs.Chain.{refused, tested, same_rest}
 
-abbrev pub head_in : HeadRead → Head
+abbrev pub head_in : Head → layout.Head
 head_in r = record { kind = r.kind; size = r.size }
 
-abbrev pub counts_in : CountsRead → Counts
+abbrev pub counts_in : Counts → layout.Counts
 counts_in r = record { vertices = r.vertices; zones = r.zones }
 
--- the least size of a kind; 0 where the number is no kind
-unfoldable pub least_of : ℕ → ℕ
-least_of kind = elim (leb 1 kind and leb kind 4) [ true ↦ least_size kind | false ↦ 0 ]
+-- the least size of a kind; none where the number is no kind
+unfoldable pub least_of : ℕ → Option ℕ
+least_of kind = elim (leb 1 kind and leb kind 4) [ true ↦ Some (least_size kind) | false ↦ None ]
 
--- a kind has its least size
-pub least_at : (kind k : ℕ) → kind ≡ k → least_of k ≡ least_of kind
-least_at kind k e = sym (ap least_of e)
+pub least_low : (kind : ℕ) → 1 ≤ kind → kind ≤ 3 → Some 1 ≡ least_of kind
+unfolding least_of least_size ◌and◌
+least_low kind h l =
+    let n : (kind ≡ 4 → ⊥) = λ (e : kind ≡ 4). omega arith in
+    rw (least_of, le-leb 1 kind h, le-leb kind 4 (omega arith), least_size, ne_eqb kind 4 n)
+
+pub least_ring : (kind : ℕ) → kind ≡ 4 → Some 3 ≡ least_of kind
+unfolding least_of least_size ◌and◌
+least_ring kind e = sym (ap least_of e)
 
 -- the other numbers have none
-pub least_none : (kind : ℕ) → (kind ≡ 1 → ⊥) → (kind ≡ 2 → ⊥) → (kind ≡ 3 → ⊥) → (kind ≡ 4 → ⊥) → 0 ≡ least_of kind
+pub least_none : (kind : ℕ) → (kind < 1) ⊎ (4 < kind) → None ≡ least_of kind
 unfolding least_of ◌and◌
-least_none zero a b c d = refl
-least_none (suc zero) a b c d = absurd (a refl)
-least_none (suc (suc zero)) a b c d = absurd (b refl)
-least_none (suc (suc (suc zero))) a b c d = absurd (c refl)
-least_none (suc (suc (suc (suc zero)))) a b c d = absurd (d refl)
-least_none (suc (suc (suc (suc (suc k))))) a b c d =
-    let l : 1 ≤ suc (suc (suc (suc (suc k)))) = omega arith in
-    let h : 4 < suc (suc (suc (suc (suc k)))) = omega arith in
-    rw (least_of, le-leb 1 (suc (suc (suc (suc (suc k))))) l, lt-leb (suc (suc (suc (suc (suc k))))) 4 h)
+least_none kind (inl h) = rw (least_of, lt-leb 1 kind h)
+least_none kind (inr h) = let l : 1 ≤ kind = omega arith in rw (least_of, le-leb 1 kind l, lt-leb kind 4 h)
 
 -- every kind has at least one vertex
 pub least_some : (kind : ℕ) → 1 ≤ least_size kind
@@ -47,85 +46,94 @@ least_some kind = go (eqb kind 4)
     go true = omega arith
     go false = omega arith
 
--- 0 says that the number is no kind
-no_kind : (kind : ℕ) → least_of kind ≡ 0 → (leb 1 kind and leb kind 4) ≡ false
+-- a number that is no kind has none
+no_kind : (kind : ℕ) → least_of kind ≡ None → (leb 1 kind and leb kind 4) ≡ false
 unfolding least_of
 no_kind kind e = go (leb 1 kind and leb kind 4) e
   where
-    go : (b : Bool) → ◌≡◌ {A = ℕ} (elim b [ true ↦ least_size kind | false ↦ 0 ]) 0 → b ≡ false
-    go true e = absurd (omega (arith, least_some kind))
+    go : (b : Bool) → ◌≡◌ {A = Option ℕ} (elim b [ true ↦ Some (least_size kind) | false ↦ None ]) None → b ≡ false
+    go true e = cc
     go false e = refl
 
--- another number says that it is one, and is its least size
-a_kind : (kind : ℕ) → (least_of kind ≡ 0 → ⊥) → ((leb 1 kind and leb kind 4) ≡ true) × (least_of kind ≡ least_size kind)
+-- a kind has its own
+a_kind : (kind least : ℕ) → least_of kind ≡ Some least → ((leb 1 kind and leb kind 4) ≡ true) × (least_size kind ≡ least)
 unfolding least_of
-a_kind kind h = go (leb 1 kind and leb kind 4) refl h
+a_kind kind least e = go (leb 1 kind and leb kind 4) e
   where
-    go : (b : Bool) → (leb 1 kind and leb kind 4) ≡ b → (◌≡◌ {A = ℕ} (elim b [ true ↦ least_size kind | false ↦ 0 ]) 0 → ⊥)
-        → ((leb 1 kind and leb kind 4) ≡ true) × (◌≡◌ {A = ℕ} (elim b [ true ↦ least_size kind | false ↦ 0 ]) (least_size kind))
-    go true e h = (e, refl)
-    go false e h = absurd (h refl)
+    go : (b : Bool) → ◌≡◌ {A = Option ℕ} (elim b [ true ↦ Some (least_size kind) | false ↦ None ]) (Some least) → (b ≡ true) × (least_size kind ≡ least)
+    go true e = (refl, cc)
+    go false e = cc
 
-module _ (file : List ℕ) (m o : ℕ) where
-  pub head_short : m ≤ o → read_head (held file m) o ≡ refuse 15 o
+module _ (p : List ℕ) (o : ℕ) where
+  pub head_short : byte_at 15 p o ≡ refuse 15 o → read_head p o ≡ refuse 15 o
   unfolding read_head ◌>>=◌
-  head_short h = rw (read_head, no_byte file m 15 o h)
+  head_short e = rw (read_head, e)
 
-  module _ (there : o < m) (kind : ℕ) (is-kind : kind ≡ get_or file (place_of o) 0) where
-    pub head_kind : least_of kind ≡ 0 → read_head (held file m) o ≡ refuse 16 o
+  module _ (kind : ℕ) (there : byte_at 15 p o ≡ ok kind) where
+    pub head_kind : least_of kind ≡ None → read_head p o ≡ refuse 16 o
     unfolding read_head ◌>>=◌ ◌>>◌ check
-    head_kind e = rw (read_head, a_byte file m 15 o there, ← is-kind, no_kind kind e)
+    head_kind e = rw (read_head, there, no_kind kind e)
 
-    pub head_end : (least_of kind ≡ 0 → ⊥) → m ≤ o + 1 → read_head (held file m) o ≡ refuse 15 (o + 1)
-    unfolding read_head ◌>>=◌ ◌>>◌ check
-    head_end e h = rw (read_head, a_byte file m 15 o there, ← is-kind, (a_kind kind e).0, no_byte file m 15 (o + 1) h)
-
-    module _ (behind : o + 1 < m) (size : ℕ) (is-size : size ≡ get_or file (place_of (o + 1)) 0) (known : least_of kind ≡ 0 → ⊥) where
-      pub head_small : size < least_of kind → read_head (held file m) o ≡ refuse 16 (o + 1)
+    module _ (least : ℕ) (known : least_of kind ≡ Some least) where
+      pub head_end : byte_at 15 p (o + 1) ≡ refuse 15 (o + 1) → read_head p o ≡ refuse 15 (o + 1)
       unfolding read_head ◌>>=◌ ◌>>◌ check
-      head_small h =
-          let l : size < least_size kind = rw (a_kind kind known).1 at h in
-          rw (read_head, a_byte file m 15 o there, ← is-kind, (a_kind kind known).0, a_byte file m 15 (o + 1) behind, ← is-size, lt-leb (least_size kind) size l)
+      head_end e = rw (read_head, there, (a_kind kind least known).0, e)
 
-      pub head_good : least_of kind ≤ size → read_head (held file m) o ≡ ok (record { kind = kind; size = size })
-      unfolding read_head ◌>>=◌ ◌>>◌ check
-      head_good h =
-          let l : least_size kind ≤ size = rw (a_kind kind known).1 at h in
-          rw (read_head, a_byte file m 15 o there, ← is-kind, (a_kind kind known).0, a_byte file m 15 (o + 1) behind, ← is-size, le-leb (least_size kind) size l)
+      module _ (size : ℕ) (behind : byte_at 15 p (o + 1) ≡ ok size) where
+        pub head_small : size < least → read_head p o ≡ refuse 16 (o + 1)
+        unfolding read_head ◌>>=◌ ◌>>◌ check
+        head_small h =
+            let l : size < least_size kind = rw (a_kind kind least known).1 h in
+            rw (read_head, there, (a_kind kind least known).0, behind, lt-leb (least_size kind) size l)
 
-module _ (file : List ℕ) (m : ℕ) where
-  pub counts_short : m ≤ 0 → counts_of (held file m) ≡ refuse 15 0
-  unfolding counts_of ◌>>=◌
-  counts_short h = rw (counts_of, no_byte file m 15 0 h)
+        pub head_good : least ≤ size → read_head p o ≡ ok (record { kind = kind; size = size })
+        unfolding read_head ◌>>=◌ ◌>>◌ check
+        head_good h =
+            let l : least_size kind ≤ size = rw (a_kind kind least known).1 h in
+            rw (read_head, there, (a_kind kind least known).0, behind, le-leb (least_size kind) size l)
 
-  module _ (n : ℕ) (is-n : n ≡ get_or file (place_of 0) 0) (there : 0 < m) where
-    pub counts_vertices : (leb 1 n and leb n 128) ≡ false → counts_of (held file m) ≡ refuse 16 0
-    unfolding counts_of ◌>>=◌ ◌>>◌ check
-    counts_vertices e = rw (counts_of, a_byte file m 15 0 there, ← is-n, e)
+-- one count
+unfoldable pub count_at : ℕ → List ℕ → ℕ → Outcome ℕ
+count_at most p o = byte_at 15 p o >>= (λ n. check (leb 1 n and leb n most) 16 o >> ok n)
 
-    pub counts_end : (leb 1 n and leb n 128) ≡ true → m ≤ 1 → counts_of (held file m) ≡ refuse 15 1
-    unfolding counts_of ◌>>=◌ ◌>>◌ check
-    counts_end e h = rw (counts_of, a_byte file m 15 0 there, ← is-n, e, no_byte file m 15 1 h)
+-- the counts are one after the other
+pub counts_are : (p : List ℕ) → counts_of p ≡ (count_at 128 p 0 >>= (λ n. count_at 64 p 1 >>= (λ z. ok (record { vertices = n; zones = z }))))
+unfolding counts_of count_at
+counts_are p =
+    tested (byte_at 15 p 0) (λ n. leb 1 n and leb n 128) 16 0 (λ n. byte_at 15 p 1 >>= (λ z. check (leb 1 z and leb z 64) 16 1 >> ok (record { vertices = n; zones = z })))
+    ∙ same_rest (count_at 128 p 0) _ _ (λ n. tested (byte_at 15 p 1) (λ z. leb 1 z and leb z 64) 16 1 (λ z. ok (record { vertices = n; zones = z })))
 
-    module _ (z : ℕ) (is-z : z ≡ get_or file (place_of 1) 0) (behind : 1 < m) (fine : (leb 1 n and leb n 128) ≡ true) where
-      pub counts_zones : (leb 1 z and leb z 64) ≡ false → counts_of (held file m) ≡ refuse 16 1
-      unfolding counts_of ◌>>=◌ ◌>>◌ check
-      counts_zones e = rw (counts_of, a_byte file m 15 0 there, ← is-n, fine, a_byte file m 15 1 behind, ← is-z, e)
+module _ (most : ℕ) (p : List ℕ) (o : ℕ) where
+  pub count_short : byte_at 15 p o ≡ refuse 15 o → count_at most p o ≡ refuse 15 o
+  unfolding count_at ◌>>=◌
+  count_short e = rw (count_at, e)
 
-      pub counts_good : (leb 1 z and leb z 64) ≡ true → counts_of (held file m) ≡ ok (record { vertices = n; zones = z })
-      unfolding counts_of ◌>>=◌ ◌>>◌ check
-      counts_good e = rw (counts_of, a_byte file m 15 0 there, ← is-n, fine, a_byte file m 15 1 behind, ← is-z, e)
+  module _ (n : ℕ) (there : byte_at 15 p o ≡ ok n) where
+    pub count_low : n < 1 → count_at most p o ≡ refuse 16 o
+    unfolding count_at ◌>>=◌ ◌>>◌ check ◌and◌
+    count_low h = rw (count_at, there, lt-leb 1 n h)
 
-pub counted_none : (n most : ℕ) → n < 1 → false ≡ (leb 1 n and leb n most)
-unfolding ◌and◌
-counted_none n most h = rw (lt-leb 1 n h)
+    pub count_high : 1 ≤ n → most < n → count_at most p o ≡ refuse 16 o
+    unfolding count_at ◌>>=◌ ◌>>◌ check ◌and◌
+    count_high h l = rw (count_at, there, le-leb 1 n h, lt-leb n most l)
 
-pub counted_some : (n most : ℕ) → 1 ≤ n → leb n most ≡ (leb 1 n and leb n most)
-unfolding ◌and◌
-counted_some n most h = rw (le-leb 1 n h)
+    pub count_good : 1 ≤ n → n ≤ most → count_at most p o ≡ ok n
+    unfolding count_at ◌>>=◌ ◌>>◌ check ◌and◌
+    count_good h l = rw (count_at, there, le-leb 1 n h, le-leb n most l)
+
+module _ (p : List ℕ) where
+  pub counts_vertices : (r q : ℕ) → count_at 128 p 0 ≡ refuse r q → counts_of p ≡ refuse r q
+  counts_vertices r q e = counts_are p ∙ refused (count_at 128 p 0) r q _ e
+
+  module _ (n : ℕ) (first : count_at 128 p 0 ≡ ok n) where
+    pub counts_zones : (r q : ℕ) → count_at 64 p 1 ≡ refuse r q → counts_of p ≡ refuse r q
+    counts_zones r q e = counts_are p ∙ bind (count_at 128 p 0) n _ first ∙ refused (count_at 64 p 1) r q _ e
+
+    pub counts_good : (z : ℕ) → count_at 64 p 1 ≡ ok z → counts_of p ≡ ok (record { vertices = n; zones = z })
+    counts_good z e = counts_are p ∙ bind (count_at 128 p 0) n _ first ∙ bind (count_at 64 p 1) z _ e
 
 -- the counts are within their ranges
-pub counts_range : (p : List ℕ) (c : Counts) → counts_of p ≡ ok c → (c.vertices ≤ 128) × (c.zones ≤ 64)
+pub counts_range : (p : List ℕ) (c : layout.Counts) → counts_of p ≡ ok c → (c.vertices ≤ 128) × (c.zones ≤ 64)
 unfolding counts_of
 counts_range p c e =
     let n = bound _ _ _ e in

@@ -4,24 +4,14 @@ use Rattle.std.proofs.Common.{ap, sym, ◌∙◌, eqb-true, eq-eqb, ne_eqb, arit
 use Rattle.std.proofs.lemmas.Bool.{eqb-false}
 use Rattle.spec.specs.Outcome.{member, index_of}
 use Rattle.theory.specs.Basics.Lists.{get_d_uniform, get_d_default}
-use Rattle.zoning.specs.Fault.{not_both}
+use Rattle.zoning.specs.declared.reading.Listing.{Listing}
 
--- the first `used` vertices of `listed`, and the zone (255 for none) and place of each vertex
-pub record Table : Type 0 where
-  pub used : ℕ
-  pub listed : List ℕ
-  pub zone : List ℕ
-  pub place : List ℕ
-
-abbrev pub seen : Table → List ℕ
+abbrev pub seen : Listing → List ℕ
 seen t = take t.used t.listed
 
 -- the k vertices listed after those of s
-abbrev pub newly : Table → Table → ℕ → List ℕ
+abbrev pub newly : Listing → Listing → ℕ → List ℕ
 newly s t k = take k (drop s.used t.listed)
-
-abbrev pub table_of : ℕ → List ℕ → List ℕ → List ℕ → Table
-table_of used l zone place = record { used = used; listed = l; zone = zone; place = place }
 
 -- how many vertices have no zone yet
 unfoldable pub free : List ℕ → ℕ
@@ -33,7 +23,7 @@ pick true a b = a
 pick false a b = b
 
 -- the zone table says which vertices are listed, and as many have no zone as the listing has room for
-pub record Rep (t : Table) : Type 0 where
+pub record Rep (t : Listing) : Type 0 where
   pub marks : (v : ℕ) → member v (seen t) ≡ not (eqb (get_or t.zone v 255) 255)
   pub room : t.used + free t.zone ≡ 128
   pub long_listed : length t.listed ≡ 128
@@ -41,11 +31,11 @@ pub record Rep (t : Table) : Type 0 where
   pub long_place : length t.place ≡ 128
 
 -- a zone's entry as code reads it
-pub entry_same : (t : Table) (v : ℕ) → Rep t → v < 128 → get_or t.zone v 0 ≡ 255 → get_or t.zone v 255 ≡ 255
+pub entry_same : (t : Listing) (v : ℕ) → Rep t → v < 128 → get_or t.zone v 0 ≡ 255 → get_or t.zone v 255 ≡ 255
 entry_same t v r h e = get_d_default t.zone v 255 0 (omega (arith, r.long_zone)) ∙ e
 
 -- the table of no vertices
-abbrev pub no_table : Table
+abbrev pub no_table : Listing
 no_table = record { used = 0; listed = replicate 128 0; zone = replicate 128 255; place = replicate 128 0 }
 
 pub rep_none : Rep no_table
@@ -100,7 +90,7 @@ index_last v [] h = index_first v v [] refl
 index_last v (x ∷ l) h = go (eqb v x) refl (index_last v l)
   where
     go : (b : Bool) → eqb v x ≡ b → (member v l ≡ false → index_of v (l ++ (v ∷ [])) ≡ length l) → index_of v ((x ∷ l) ++ (v ∷ [])) ≡ length (x ∷ l)
-    go true e ih = not_both (ap (λ (y : ℕ). member v (y ∷ l)) (sym (eqb-true v x e)) ∙ member_here v l) h
+    go true e ih = let q = ap (λ (y : ℕ). member v (y ∷ l)) (sym (eqb-true v x e)) ∙ member_here v l in cc
     go false e ih =
         let d = eqb-false v x e in
         index_skip v x (l ++ (v ∷ [])) d ∙ ap (λ (k : ℕ). k + 1) (ih (sym (member_there v x l d) ∙ h)) ∙ omega arith
@@ -108,7 +98,7 @@ index_last v (x ∷ l) h = go (eqb v x) refl (index_last v l)
 -- one that was there stays where it was
 pub index_stays : (w v : ℕ) (l : List ℕ) → member w l ≡ true → index_of w (l ++ (v ∷ [])) ≡ index_of w l
 unfolding member
-index_stays w v [] h = not_both h refl
+index_stays w v [] h = cc
 index_stays w v (x ∷ l) h = go (eqb w x) refl (index_stays w v l)
   where
     go : (b : Bool) → eqb w x ≡ b → (member w l ≡ true → index_of w (l ++ (v ∷ [])) ≡ index_of w l) → index_of w ((x ∷ l) ++ (v ∷ [])) ≡ index_of w (x ∷ l)

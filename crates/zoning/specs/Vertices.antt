@@ -1,6 +1,6 @@
 -- The vertices of one zone, read one by one: what the tables hold after each, and every way out.
 use Prim.Native.Nat.{ℕ, zero, suc, ◌+◌, ◌-◌, ◌≤◌, ◌<◌}
-use Rattle.std.specs.Prelude.{◌≡◌, refl, Bool, false, length, get_or, take, drop, set, eqb, ltb}
+use Rattle.std.specs.Prelude.{◌≡◌, refl, Result, IfOk, Bool, false, length, get_or, take, drop, set, eqb, ltb}
 use Rattle.std.proofs.Math.Path.{ap}
 use Rattle.std.proofs.Common.{ap₂, sym, ◌∙◌, length-drop, get_or-set_same, get_or-set_other, take-suc-set, length-take-le, add-one}
 use Rattle.std.proofs.Math.Bool.{true, not}
@@ -11,80 +11,77 @@ use Rattle.std.proofs.lemmas.List.{drop-set-add}
 use borrow.Author.Tests.{eqb-true, eqb-false, lt-ltb, le-ltb, ne_eqb}
 use native.Mathlib.Omega.{arith}
 use Rattle.spec.specs.Outcome.{ok, ◌>>=◌, ◌>>◌, check, member, index_of, refuse, ◌and◌}
-use Rattle.spec.specs.Layout.{read_vertices}
+use Rattle.spec.specs.Layout.{byte_at, read_vertices}
 use Rattle.theory.specs.Basics.Lists.{get_d_default}
-use Rattle.wire.specs.Payload.{place_of}
 use Rattle.zoning.specs.declared.MapFault.{MapFault}
-use Rattle.zoning.specs.Fault.{answered, sound_of, not_both}
-use Rattle.zoning.specs.Bytes.{held, no_byte, a_byte}
-use Rattle.zoning.specs.Table.{Table, seen, newly, pick, Rep, snoc_here, snoc_there, index_last, index_stays, free_set}
+use Rattle.zoning.specs.declared.reading.Listing.{Listing}
+use Rattle.zoning.specs.Fault.{answered}
+use Rattle.zoning.specs.Table.{seen, newly, pick, Rep, snoc_here, snoc_there, index_last, index_stays, free_set}
 
 -- k of the `size` vertices of zone z are read after those of s
-pub record Going (file : List ℕ) (m n z size from : ℕ) (s t : Table) (k : ℕ) : Type 0 where
+pub record Going (p : List ℕ) (n z size from : ℕ) (s t : Listing) (k : ℕ) : Type 0 where
   pub rep : Rep t
   pub used : t.used ≡ s.used + k
   pub before : take s.used t.listed ≡ take s.used s.listed
   pub zoned : (v : ℕ) → get_or t.zone v 255 ≡ pick (member v (newly s t k)) z (get_or s.zone v 255)
   pub placed : (v : ℕ) → get_or t.place v 0 ≡ pick (member v (newly s t k)) (index_of v (newly s t k)) (get_or s.place v 0)
   pub fresh : (v : ℕ) → member v (newly s t k) ≡ true → get_or s.zone v 255 ≡ 255
-  pub rest : read_vertices n (held file m) size from (seen s) ≡ read_vertices n (held file m) (size - k) (from + k) (seen t)
+  pub rest : read_vertices n p size from (seen s) ≡ read_vertices n p (size - k) (from + k) (seen t)
 
 -- the vertices of a zone are read, or refused
-pub record VerticesAre (file : List ℕ) (m n z size from : ℕ) (s t : Table) (f : MapFault) : Type 0 where
-  pub answer : read_vertices n (held file m) size from (seen s) ≡ answered f (seen t)
-  pub going : sound_of f ≡ true → Going file m n z size from s t size
+pub record VerticesAre (p : List ℕ) (n z size from : ℕ) (s t : Listing) (r : Result (Unit {0}) MapFault) : Type 0 where
+  pub answer : read_vertices n p size from (seen s) ≡ answered (λ _. seen t) r
+  pub going : IfOk r (λ _. Going p n z size from s t size)
 
 -- ---- the definition's reader
 
-module _ (file : List ℕ) (m n : ℕ) (o : ℕ) (done : List ℕ) where
-  vertices_short : (todo : ℕ) → 0 < todo → m ≤ o → read_vertices n (held file m) todo o done ≡ refuse 15 o
+module _ (p : List ℕ) (n o : ℕ) (done : List ℕ) where
+  vertices_short : (todo : ℕ) → 0 < todo → byte_at 15 p o ≡ refuse 15 o → read_vertices n p todo o done ≡ refuse 15 o
   unfolding read_vertices ◌>>=◌
-  vertices_short zero h g = absurd (omega arith)
-  vertices_short (suc todo) h g = rw (no_byte file m 15 o g)
+  vertices_short zero h e = absurd (omega arith)
+  vertices_short (suc todo) h e = rw e
 
-  module _ (v : ℕ) (is_v : v ≡ get_or file (place_of o) 0) (there : o < m) where
-    vertices_bad : (todo : ℕ) → 0 < todo → (ltb v n and not (member v done)) ≡ false → read_vertices n (held file m) todo o done ≡ refuse 17 o
+  module _ (v : ℕ) (there : byte_at 15 p o ≡ ok v) where
+    vertices_bad : (todo : ℕ) → 0 < todo → (ltb v n and not (member v done)) ≡ false → read_vertices n p todo o done ≡ refuse 17 o
     unfolding read_vertices ◌>>=◌ ◌>>◌ check
     vertices_bad zero h e = absurd (omega arith)
-    vertices_bad (suc todo) h e = rw (a_byte file m 15 o there, ← is_v, e)
+    vertices_bad (suc todo) h e = rw (there, e)
 
     vertices_more : (todo : ℕ) → 0 < todo → (ltb v n and not (member v done)) ≡ true
-        → read_vertices n (held file m) todo o done ≡ read_vertices n (held file m) (todo - 1) (o + 1) (done ++ (v ∷ []))
+        → read_vertices n p todo o done ≡ read_vertices n p (todo - 1) (o + 1) (done ++ (v ∷ []))
     unfolding read_vertices ◌>>=◌ ◌>>◌ check
     vertices_more zero h e = absurd (omega arith)
-    vertices_more (suc todo) h e = let a : suc todo - 1 ≡ todo = omega arith in rw (a_byte file m 15 o there, ← is_v, e, a)
+    vertices_more (suc todo) h e = let a : suc todo - 1 ≡ todo = omega arith in rw (there, e, a)
 
 -- ---- one vertex more
 
 -- the table with vertex v at the place k of zone z
-abbrev pub stepped : Table → Table → ℕ → ℕ → ℕ → Table
-stepped s t v z k = record {
-  used = s.used + (k + 1);
-  listed = set t.listed (s.used + k) v;
+abbrev pub stepped : Listing → ℕ → ℕ → ℕ → Listing
+stepped t v z k = record {
+  used = t.used + 1;
+  listed = set t.listed t.used v;
   zone = set t.zone v z;
   place = set t.place v k;
 }
 
-module _ (file : List ℕ) (m n z size from : ℕ) (s t : Table) (k : ℕ) (g : Going file m n z size from s t k) (v : ℕ) (small : v < 128) (empty : get_or t.zone v 255 ≡ 255) (few : z < 64) where
-  -- the listing has room
-  pub space : s.used + k < 128
-  space = omega (arith, free_set t.zone v z (omega (arith, g.rep.long_zone)) empty (λ (e : z ≡ 255). omega arith), g.rep.room, g.used)
+-- the listing has room for one that has no zone
+pub space : (t : Listing) (v : ℕ) → Rep t → v < 128 → get_or t.zone v 255 ≡ 255 → t.used < 128
+space t v r small empty = omega (arith, free_set t.zone v 0 (omega (arith, r.long_zone)) empty (λ (e : 0 ≡ 255). omega arith), r.room)
 
-  same_seen : take (s.used + k) t.listed ≡ seen t
-  same_seen = ap (λ (u : ℕ). take u t.listed) (sym g.used)
+module _ (p : List ℕ) (n z size from : ℕ) (s t : Listing) (k : ℕ) (g : Going p n z size from s t k) (v : ℕ) (small : v < 128) (empty : get_or t.zone v 255 ≡ 255) (few : z < 64) where
+  room : t.used < length t.listed
+  room = omega (arith, g.rep.long_listed, space t v g.rep small empty)
 
-  seen_more : seen (stepped s t v z k) ≡ seen t ++ (v ∷ [])
-  seen_more =
-      let e : s.used + (k + 1) ≡ suc (s.used + k) = omega arith in
-      ap (λ (u : ℕ). take u (set t.listed (s.used + k) v)) e ∙ take-suc-set t.listed (s.used + k) v (omega (arith, g.rep.long_listed, space))
-      ∙ ap (λ (l : List ℕ). l ++ (v ∷ [])) same_seen
+  seen_more : seen (stepped t v z k) ≡ seen t ++ (v ∷ [])
+  seen_more = rw (add-one t.used) (take-suc-set t.listed t.used v room)
 
-  newly_more : newly s (stepped s t v z k) (k + 1) ≡ newly s t k ++ (v ∷ [])
-  newly_more = rw (add-one k, drop-set-add s.used t.listed k v)
-      (take-suc-set (drop s.used t.listed) k v (omega (arith, length-drop s.used t.listed, g.rep.long_listed, space)))
+  newly_more : newly s (stepped t v z k) (k + 1) ≡ newly s t k ++ (v ∷ [])
+  newly_more =
+      ap (λ (u : ℕ). take (k + 1) (drop s.used (set t.listed u v))) g.used
+      ∙ rw (add-one k, drop-set-add s.used t.listed k v) (take-suc-set (drop s.used t.listed) k v (omega (arith, length-drop s.used t.listed, g.used, room)))
 
   newly_length : length (newly s t k) ≡ k
-  newly_length = length-take-le k (drop s.used t.listed) (omega (arith, length-drop s.used t.listed, g.rep.long_listed, space))
+  newly_length = length-take-le k (drop s.used t.listed) (omega (arith, length-drop s.used t.listed, g.used, room))
 
   -- it was not listed in this zone before
   not_newly : member v (newly s t k) ≡ false
@@ -99,7 +96,7 @@ module _ (file : List ℕ) (m n z size from : ℕ) (s t : Table) (k : ℕ) (g : 
   old_empty : get_or s.zone v 255 ≡ 255
   old_empty = ap (λ (b : Bool). pick b z (get_or s.zone v 255)) (sym not_newly) ∙ sym (g.zoned v) ∙ empty
 
-  marks_more : (w : ℕ) → member w (seen (stepped s t v z k)) ≡ not (eqb (get_or (set t.zone v z) w 255) 255)
+  marks_more : (w : ℕ) → member w (seen (stepped t v z k)) ≡ not (eqb (get_or (set t.zone v z) w 255) 255)
   marks_more w = ap (member w) seen_more ∙ go (eqb w v) refl
     where
       go : (b : Bool) → eqb w v ≡ b → member w (seen t ++ (v ∷ [])) ≡ not (eqb (get_or (set t.zone v z) w 255) 255)
@@ -144,18 +141,18 @@ module _ (file : List ℕ) (m n z size from : ℕ) (s t : Table) (k : ℕ) (g : 
       go true e = ap (λ (x : ℕ). get_or s.zone x 255) (eqb-true w v e) ∙ old_empty
       go false e = g.fresh w (sym (snoc_there w v (newly s t k) (eqb-false w v e)) ∙ h)
 
-  pub going_more : k < size → from + k < m → v ≡ get_or file (place_of (from + k)) 0 → v < n → Going file m n z size from s (stepped s t v z k) (k + 1)
+  pub going_more : k < size → byte_at 15 p (from + k) ≡ ok v → v < n → Going p n z size from s (stepped t v z k) (k + 1)
   unfolding ◌and◌
-  going_more h l e b = record {
+  going_more h e b = record {
     rep = record {
       marks = marks_more;
-      room = omega (arith, free_set t.zone v z (omega (arith, g.rep.long_zone)) empty (λ (e : z ≡ 255). omega arith), g.rep.room, g.used);
-      long_listed = length-set t.listed (s.used + k) v ∙ g.rep.long_listed;
+      room = omega (arith, free_set t.zone v z (omega (arith, g.rep.long_zone)) empty (λ (e : z ≡ 255). omega arith), g.rep.room);
+      long_listed = length-set t.listed t.used v ∙ g.rep.long_listed;
       long_zone = length-set t.zone v z ∙ g.rep.long_zone;
       long_place = length-set t.place v k ∙ g.rep.long_place;
     };
-    used = refl;
-    before = take-set-le s.used t.listed (s.used + k) v (omega arith) ∙ g.before;
+    used = omega (arith, g.used);
+    before = take-set-le s.used t.listed t.used v (omega (arith, g.used)) ∙ g.before;
     zoned = λ w. zoned_more w ∙ ap (λ (l : List ℕ). pick (member w l) z (get_or s.zone w 255)) (sym newly_more);
     placed = λ w. placed_more w ∙ ap (λ (l : List ℕ). pick (member w l) (index_of w l) (get_or s.place w 0)) (sym newly_more);
     fresh = λ w h. fresh_more w (ap (member w) (sym newly_more) ∙ h);
@@ -171,24 +168,24 @@ module _ (file : List ℕ) (m n z size from : ℕ) (s t : Table) (k : ℕ) (g : 
       a2 : from + k + 1 ≡ from + (k + 1)
       a2 = omega arith
 
-      step : read_vertices n (held file m) (size - k) (from + k) (seen t) ≡ read_vertices n (held file m) (size - (k + 1)) (from + (k + 1)) (seen (stepped s t v z k))
-      step = vertices_more file m n (from + k) (seen t) v e l (size - k) (omega arith) fine
-          ∙ ap₂ (λ (x y : ℕ). read_vertices n (held file m) x y (seen t ++ (v ∷ []))) a1 a2
-          ∙ ap (read_vertices n (held file m) (size - (k + 1)) (from + (k + 1))) (sym seen_more)
+      step : read_vertices n p (size - k) (from + k) (seen t) ≡ read_vertices n p (size - (k + 1)) (from + (k + 1)) (seen (stepped t v z k))
+      step = vertices_more p n (from + k) (seen t) v e (size - k) (omega arith) fine
+          ∙ ap₂ (λ (x y : ℕ). read_vertices n p x y (seen t ++ (v ∷ []))) a1 a2
+          ∙ ap (read_vertices n p (size - (k + 1)) (from + (k + 1))) (sym seen_more)
 
 -- ---- the ways out
 
-pub going_start : (file : List ℕ) (m n z size from : ℕ) (s : Table) (t : Table) → t ≡ s → Rep s → Going file m n z size from s t 0
+pub going_start : (p : List ℕ) (n z size from : ℕ) (s : Listing) → Rep s → Going p n z size from s s 0
 unfolding member
-going_start file m n z size from s t e r = rw e (record {
+going_start p n z size from s r = record {
   rep = r;
   used = omega arith;
   before = refl;
   zoned = λ v. refl;
   placed = λ v. refl;
-  fresh = λ v h. not_both h refl;
-  rest = ap₂ (λ (a b : ℕ). read_vertices n (held file m) a b (seen s)) a1 a2;
-})
+  fresh = λ v h. cc;
+  rest = ap₂ (λ (a b : ℕ). read_vertices n p a b (seen s)) a1 a2;
+}
   where
     a1 : size ≡ size - 0
     a1 = omega arith
@@ -196,26 +193,26 @@ going_start file m n z size from s t e r = rw e (record {
     a2 : from ≡ from + 0
     a2 = omega arith
 
-module _ (file : List ℕ) (m n z size from : ℕ) (s t : Table) (k : ℕ) (g : Going file m n z size from s t k) (more : k < size) where
+module _ (p : List ℕ) (n z size from : ℕ) (s t : Listing) (k : ℕ) (g : Going p n z size from s t k) (more : k < size) where
   -- the payload ends
-  pub going_short : m ≤ from + k → read_vertices n (held file m) size from (seen s) ≡ refuse 15 (from + k)
-  going_short l = g.rest ∙ vertices_short file m n (from + k) (seen t) (size - k) (omega arith) l
+  pub going_short : byte_at 15 p (from + k) ≡ refuse 15 (from + k) → read_vertices n p size from (seen s) ≡ refuse 15 (from + k)
+  going_short e = g.rest ∙ vertices_short p n (from + k) (seen t) (size - k) (omega arith) e
 
-  module _ (v : ℕ) (is_v : v ≡ get_or file (place_of (from + k)) 0) (there : from + k < m) where
+  module _ (v : ℕ) (there : byte_at 15 p (from + k) ≡ ok v) where
     -- the vertex is not below n
-    pub going_over : n ≤ v → read_vertices n (held file m) size from (seen s) ≡ refuse 17 (from + k)
+    pub going_over : n ≤ v → read_vertices n p size from (seen s) ≡ refuse 17 (from + k)
     unfolding ◌and◌
-    going_over b = g.rest ∙ vertices_bad file m n (from + k) (seen t) v is_v there (size - k) (omega arith) (rw (le-ltb v n b))
+    going_over b = g.rest ∙ vertices_bad p n (from + k) (seen t) v there (size - k) (omega arith) (rw (le-ltb v n b))
 
     -- the vertex is listed already
-    pub going_twice : n ≤ 128 → v < n → (get_or t.zone v 0 ≡ 255 → ⊥) → read_vertices n (held file m) size from (seen s) ≡ refuse 17 (from + k)
+    pub going_twice : n ≤ 128 → v < n → (get_or t.zone v 0 ≡ 255 → ⊥) → read_vertices n p size from (seen s) ≡ refuse 17 (from + k)
     unfolding ◌and◌
     going_twice few b w =
         let d : (get_or t.zone v 255 ≡ 255 → ⊥) = λ e. w (get_d_default t.zone v 0 255 (omega (arith, g.rep.long_zone)) ∙ e) in
-        g.rest ∙ vertices_bad file m n (from + k) (seen t) v is_v there (size - k) (omega arith)
+        g.rest ∙ vertices_bad p n (from + k) (seen t) v there (size - k) (omega arith)
         (rw (lt-ltb v n b, g.rep.marks v, ne_eqb _ _ d))
 
 -- all are read
-pub going_end : (file : List ℕ) (m n z size from : ℕ) (s t : Table) (k : ℕ) → Going file m n z size from s t k → k ≡ size → read_vertices n (held file m) size from (seen s) ≡ ok (seen t)
+pub going_end : (p : List ℕ) (n z size from : ℕ) (s t : Listing) → Going p n z size from s t size → read_vertices n p size from (seen s) ≡ ok (seen t)
 unfolding read_vertices
-going_end file m n z size from s t k g h = let e : size - k ≡ 0 = omega arith in g.rest ∙ ap (λ (x : ℕ). read_vertices n (held file m) x (from + k) (seen t)) e
+going_end p n z size from s t g = let e : size - size ≡ 0 = omega arith in g.rest ∙ ap (λ (x : ℕ). read_vertices n p x (from + size) (seen t)) e

@@ -1,105 +1,54 @@
 // The counts of a map, and a zone's kind and size.
-ghost use Rattle.std.specs.Prelude.{◌≡◌, ◌≤◌, leb};
-ghost use Rattle.spec.specs.Outcome.{◌and◌};
+ghost use Rattle.std.specs.Prelude.{◌≡◌, ◌≤◌};
 ghost use Rattle.spec.specs.Layout.{read_head, counts_of};
 ghost use Rattle.zoning.specs.Fault.{answered};
 ghost use Rattle.zoning.specs.Bytes.{held};
-ghost use Rattle.zoning.specs.Heads.{least_of, head_in, counts_in};
+ghost use Rattle.zoning.specs.Heads.{least_of, count_at, head_in, counts_in};
 
-use crate::{CountsRead, HeadRead, MapFault};
+use crate::{Counts, Head, MapFault, byte};
 
-// The least size of a kind; 0 where the number is no kind.
-pub fn least_size(kind: u8) -> u8
+// The least size of a kind; none where the number is no kind.
+pub fn least_size(kind: u8) -> Option<u8>
     ensures { result ≡ least_of kind }
 {
     match kind {
-        1 => 1,
-        2 => 1,
-        3 => 1,
-        4 => 3,
-        _ => 0,
-    }
-}
-
-fn no_head(fault: MapFault) -> HeadRead
-    ensures { result.fault ≡ fault }
-{
-    HeadRead {
-        fault: fault,
-        kind: 0,
-        size: 0,
+        1..=3 => Some(1),
+        4 => Some(3),
+        _ => None,
     }
 }
 
 // The kind and size at offset o of a payload of m bytes.
-pub fn read_head(file: &[u8], m: usize, o: usize) -> HeadRead
+pub fn read_head(file: &[u8], m: usize, o: usize) -> Result<Head, MapFault>
     requires { o ≤ 65536 }
-    ensures { read_head (held file.now m) o ≡ answered result.fault (head_in result) }
+    ensures { read_head (held file.now m) o ≡ answered head_in result }
 {
-    if o >= m {
-        return no_head(MapFault::Short(o));
-    }
-    let kind = wire::payload_byte(file, o);
-    let least = least_size(kind);
-    if least == 0 {
-        return no_head(MapFault::Range(o));
-    }
+    let kind = byte(file, m, o).ok_or(MapFault::Short(o))?;
+    let least = least_size(kind).ok_or(MapFault::Range(o))?;
     let q = o + 1;
-    if q >= m {
-        return no_head(MapFault::Short(q));
-    }
-    let size = wire::payload_byte(file, q);
+    let size = byte(file, m, q).ok_or(MapFault::Short(q))?;
     if size < least {
-        return no_head(MapFault::Range(q));
+        return Err(MapFault::Range(q));
     }
-    HeadRead {
-        fault: MapFault::None,
-        kind: kind,
-        size: size,
-    }
+    Ok(Head { kind, size })
 }
 
-fn no_counts(fault: MapFault) -> CountsRead
-    ensures { result.fault ≡ fault }
+// The count at offset o of a payload of m bytes, from 1 to the most.
+fn read_count(file: &[u8], m: usize, o: usize, most: u8) -> Result<u8, MapFault>
+    ensures { count_at most (held file.now m) o ≡ answered (λ n. n) result }
 {
-    CountsRead {
-        fault: fault,
-        vertices: 0,
-        zones: 0,
+    let n = byte(file, m, o).ok_or(MapFault::Short(o))?;
+    if n < 1 || n > most {
+        return Err(MapFault::Range(o));
     }
-}
-
-// Is a count from 1 to the most?
-fn counted(n: u8, most: u8) -> bool
-    ensures { result ≡ (leb 1 n and leb n most) }
-{
-    if n < 1 {
-        return false;
-    }
-    n <= most
+    Ok(n)
 }
 
 // How many vertices and zones a payload of m bytes says there are.
-pub fn read_counts(file: &[u8], m: usize) -> CountsRead
-    ensures { counts_of (held file.now m) ≡ answered result.fault (counts_in result) }
+pub fn read_counts(file: &[u8], m: usize) -> Result<Counts, MapFault>
+    ensures { counts_of (held file.now m) ≡ answered counts_in result }
 {
-    if m <= 0 {
-        return no_counts(MapFault::Short(0));
-    }
-    let n = wire::payload_byte(file, 0);
-    if !counted(n, 128) {
-        return no_counts(MapFault::Range(0));
-    }
-    if m <= 1 {
-        return no_counts(MapFault::Short(1));
-    }
-    let z = wire::payload_byte(file, 1);
-    if !counted(z, 64) {
-        return no_counts(MapFault::Range(1));
-    }
-    CountsRead {
-        fault: MapFault::None,
-        vertices: n,
-        zones: z,
-    }
+    let vertices = read_count(file, m, 0, 128)?;
+    let zones = read_count(file, m, 1, 64)?;
+    Ok(Counts { vertices, zones })
 }

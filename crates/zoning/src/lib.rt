@@ -1,16 +1,19 @@
 // A map's zones read from its payload (document 01, "Block files"): the counts, and the zones' vertices.
 //
 //     heads    the counts, and a zone's kind and size
-//     zones    the zones' vertices in listed order, and the zone and place of each vertex
+//     reading  the zones' vertices in listed order, and the zone and place of each vertex
 #![tactic(auto)]
 
-pub mod heads;
-pub mod zones;
+ghost use Rattle.std.specs.Prelude.{◌≡◌, ℕ};
+ghost use Rattle.spec.specs.Layout.{byte_at};
+ghost use Rattle.zoning.specs.Bytes.{held, found};
 
-// Why a map is refused whose blocks have passed, with the payload offset or the zone; None where it is accepted.
-#[derive(Clone, Copy)]
+pub mod heads;
+pub mod reading;
+
+// Why a map is refused whose blocks have passed, with the payload offset or the zone.
+#[derive(Clone, Copy, Debug, PartialEq, Eq)]
 pub enum MapFault {
-    None,
     Short(usize),
     Range(usize),
     Listing(usize),
@@ -18,26 +21,23 @@ pub enum MapFault {
     Kind(usize),
 }
 
-// How many vertices and zones there are, or why not.
+// How many vertices and zones there are.
 #[derive(Clone, Copy)]
-pub struct CountsRead {
-    pub fault: MapFault,
+pub struct Counts {
     pub vertices: u8,
     pub zones: u8,
 }
 
-// A zone's kind and size, or why not.
+// A zone's kind and size.
 #[derive(Clone, Copy)]
-pub struct HeadRead {
-    pub fault: MapFault,
+pub struct Head {
     pub kind: u8,
     pub size: u8,
 }
 
-// The zones, and the offset after them, or why not.
+// The zones, and the offset after them.
 #[derive(Clone, Copy)]
-pub struct ZonesRead {
-    pub fault: MapFault,
+pub struct Zones {
     pub next: usize,
     pub kind: [u8; 64],
     pub first: [u8; 64],
@@ -47,19 +47,13 @@ pub struct ZonesRead {
     pub place: [u8; 128],
 }
 
-ghost use Rattle.std.specs.Prelude.{◌≡◌};
-ghost use Rattle.zoning.specs.Fault.{sound_of};
-
-// Is there no fault?
-pub fn sound(fault: MapFault) -> bool
-    ensures { result ≡ sound_of fault }
+// Byte o of a payload of m bytes; none where the payload ends before.
+pub fn byte(file: &[u8], m: usize, o: usize) -> Option<u8>
+    ensures { (r : ℕ) → byte_at r (held file.now m) o ≡ found r o result }
 {
-    match fault {
-        MapFault::None => true,
-        MapFault::Short(_) => false,
-        MapFault::Range(_) => false,
-        MapFault::Listing(_) => false,
-        MapFault::Edge(_) => false,
-        MapFault::Kind(_) => false,
+    let there = o < m;
+    if there {
+        return Some(wire::payload_byte(file, o));
     }
+    None
 }

@@ -1,62 +1,33 @@
-use mathlib.Core.Path.{sym, ◌∙◌}
-use Rattle.zoning.specs.Fault.{given}
-use Rattle.zoning.specs.Bytes.{held}
+use Rattle.std.proofs.Common.{◌∙◌}
+use Rattle.std.proofs.lemmas.Result.{err_from_is_err_and}
 use Rattle.zoning.specs.Heads.{counts_in, counts_range}
-use Rattle.layout.specs.Rest.{map_at, edges_in, map_counts, map_zones, map_rest}
-use Rattle.layout.specs.Map.{no_map, nothing_is, made_is}
+use Rattle.layout.specs.Rest.{map_counts, map_zones, map_rest}
+use Rattle.layout.specs.Map.{layout_refused, layout_made}
 use Rattle.layout.proofs.map.read_layout.Goals as goal
 
-pub returns-then-not-sound : goal.returns-then-not-sound
-returns-then-not-sound c =
-    let a = c.args in
-    let k = c.read_counts-counts in
-    let s = sym c.sound.ensures ∙ c.if-not-sound.true in
-    nothing_is _ k.result.fault no_map _ _ (map_counts (held a.file.now a.m) k.result k.ensures s no_map) s c.refused.ensures
+pub returns-in_err-vertices : goal.returns-in_err-vertices
+returns-in_err-vertices c =
+    let p = err_from_is_err_and c.from_residual.result c.from_residual.ensures.1 in
+    rw (p.1, p.2) (layout_refused _ _ _ (map_counts _ _ _ c.in_err-vertices.ensures))
 
-pub read_zones-read-requires : goal.read_zones-read-requires
-read_zones-read-requires c =
-    let k = c.read_counts-counts in
-    let s = sym c.sound.ensures ∙ c.if-not-sound.false in
-    let w = counts_range _ (counts_in k.result) (given _ k.result.fault (counts_in k.result) k.ensures s) in
-    (w.0, w.1)
+pub read_zones-requires : goal.read_zones-requires
+read_zones-requires c = let k = c.in_ok-vertices in counts_range _ (counts_in k.field-0) k.ensures
 
-pub returns-then-not-sound-2 : goal.returns-then-not-sound-2
-returns-then-not-sound-2 c =
-    let a = c.args in
-    let k = c.read_counts-counts in
-    let s = sym c.sound.ensures ∙ c.if-not-sound.false in
-    let z = c.read_zones-read in
-    let t = sym c.sound-2.ensures ∙ c.if-not-sound-2.true in
-    nothing_is _ z.result.fault no_map _ _ (map_zones (held a.file.now a.m) k.result k.ensures s z.result z.ensures t no_map) t c.refused-then-not-sound-2.ensures
+pub returns-in_err-read : goal.returns-in_err-read
+returns-in_err-read c =
+    let p = err_from_is_err_and c.from_residual-in_err-read.result c.from_residual-in_err-read.ensures.1 in
+    rw (p.1, p.2) (layout_refused _ _ _ (map_zones _ c.in_ok-vertices.field-0 c.in_ok-vertices.ensures _ _ c.in_err-read.ensures.answer))
 
-pub read_rest-fault-requires : goal.read_rest-fault-requires
-read_rest-fault-requires c =
-    let k = c.read_counts-counts in
-    let s = sym c.sound.ensures ∙ c.if-not-sound.false in
-    let w = counts_range _ (counts_in k.result) (given _ k.result.fault (counts_in k.result) k.ensures s) in
-    record { m_bound = (c.requires.0, w.0, w.1); zones_are = (c.read_zones-read.ensures, sym c.sound-2.ensures ∙ c.if-not-sound-2.false, c.requires.1) }
+pub read_rest-requires-clause-m_bound : goal.read_rest-requires-clause-m_bound
+read_rest-requires-clause-m_bound c = let k = c.in_ok-vertices in let w = counts_range _ (counts_in k.field-0) k.ensures in (c.requires.0, w.0, w.1)
 
-pub returns-then-not-sound-3 : goal.returns-then-not-sound-3
-returns-then-not-sound-3 c =
-    let a = c.args in
-    let k = c.read_counts-counts in
-    let s = sym c.sound.ensures ∙ c.if-not-sound.false in
-    let z = c.read_zones-read in
-    let t = sym c.sound-2.ensures ∙ c.if-not-sound-2.false in
-    let r = c.read_rest-fault in
-    let u = sym c.sound-3.ensures ∙ c.if-not-sound-3.true in
-    nothing_is _ r.result (map_at k.result.vertices z.result k.result.zones (edges_in a.file.now z.result)) _ _
-    (map_rest (held a.file.now a.m) k.result k.ensures s z.result z.ensures t ∙ r.ensures.answer) u c.refused-then-not-sound-3.ensures
+pub returns-in_err-read_rest : goal.returns-in_err-read_rest
+returns-in_err-read_rest c =
+    let p = err_from_is_err_and c.from_residual-in_err-read_rest.result c.from_residual-in_err-read_rest.ensures.1 in
+    rw (p.1, p.2) (layout_refused _ _ _ (map_rest _ c.in_ok-vertices.field-0 c.in_ok-vertices.ensures c.in_ok-read.read c.in_ok-read.ensures ∙ c.in_err-read_rest.ensures.answer))
 
 pub returns : goal.returns
 returns c =
-    let a = c.args in
-    let k = c.read_counts-counts in
-    let s = sym c.sound.ensures ∙ c.if-not-sound.false in
-    let w = counts_range _ (counts_in k.result) (given _ k.result.fault (counts_in k.result) k.ensures s) in
-    let z = c.read_zones-read in
-    let t = sym c.sound-2.ensures ∙ c.if-not-sound-2.false in
-    let r = c.read_rest-fault in
-    let u = sym c.sound-3.ensures ∙ c.if-not-sound-3.false in
-    made_is a.file.now a.m k.result.vertices k.result.zones z.result w.0 w.1 z.ensures t _
-    (map_rest (held a.file.now a.m) k.result k.ensures s z.result z.ensures t) _ r.result r.ensures u
+    let k = c.in_ok-vertices in
+    let w = counts_range _ (counts_in k.field-0) k.ensures in
+    layout_made c.args.file.now _ _ _ c.in_ok-read.read w.0 w.1 c.in_ok-read.ensures _ (map_rest _ k.field-0 k.ensures c.in_ok-read.read c.in_ok-read.ensures) _ c.in_ok-read_rest.ensures

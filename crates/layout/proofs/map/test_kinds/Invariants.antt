@@ -1,4 +1,3 @@
-use Prim.Native.Nat.{◌-◌, ◌≤◌}
 use mathlib.Core.Path.{◌≡◌}
 use lib.ListN.{drop}
 use Rattle.spec.specs.Layout.{Map, kinds_from}
@@ -8,7 +7,4 @@ use Rattle.layout.specs.Kinds.{Ready}
 use Rattle.layout.proofs.map.test_kinds.Given as goal
 
 abbrev pub invariant-loop-i : goal.invariant-loop-i
-invariant-loop-i l = (l.i ≤ l.count) × ((m : Map) → Ready l.rows m (heads_of l.read) l.read.listed l.read.zone l.count → kinds_from m 0 (zones_in (heads_of l.read) l.read.listed l.count) ≡ kinds_from m l.i (drop l.i (zones_in (heads_of l.read) l.read.listed l.count)))
-
-abbrev pub decreases-loop-i : goal.decreases-loop-i
-decreases-loop-i l = l.count - l.i
+invariant-loop-i l = (m : Map) → Ready l.rows m (heads_of l.zones) l.zones.listed l.zones.zone l.count → kinds_from m 0 (zones_in (heads_of l.zones) l.zones.listed l.count) ≡ kinds_from m l.i (drop l.i (zones_in (heads_of l.zones) l.zones.listed l.count))

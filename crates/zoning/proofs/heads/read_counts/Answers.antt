@@ -1,19 +1,19 @@
-use native.Mathlib.Omega.{arith}
-use mathlib.Core.Path.{sym, ◌∙◌}
-use Rattle.zoning.specs.Heads.{counts_short, counts_vertices, counts_end, counts_zones, counts_good}
+use Rattle.std.proofs.lemmas.Result.{err_from_is_err_and}
+use Rattle.zoning.specs.Bytes.{held}
+use Rattle.zoning.specs.Heads.{counts_vertices, counts_zones, counts_good}
 use Rattle.zoning.proofs.heads.read_counts.Goals as goal
 
-pub returns-then-m-le0 : goal.returns-then-m-le0
-returns-then-m-le0 c = rw c.no_counts.ensures (counts_short _ _ c.if-m-le0.true)
+pub returns-in_err-vertices : goal.returns-in_err-vertices
+returns-in_err-vertices c =
+    let a = c.args in
+    let p = err_from_is_err_and c.from_residual.result c.from_residual.ensures.1 in
+    rw (p.1, p.2) (counts_vertices (held a.file.now a.m) _ _ c.in_err-vertices.ensures)
 
-pub returns-then-not-counted : goal.returns-then-not-counted
-returns-then-not-counted c = rw c.no_counts-then-not-counted.ensures (counts_vertices _ _ _ c.payload_byte-n.ensures (omega arith) (sym c.counted.ensures ∙ c.if-not-counted.true))
-
-pub returns-then-m-le1 : goal.returns-then-m-le1
-returns-then-m-le1 c = rw c.no_counts-then-m-le1.ensures (counts_end _ _ _ c.payload_byte-n.ensures (omega arith) (sym c.counted.ensures ∙ c.if-not-counted.false) c.if-m-le1.true)
-
-pub returns-then-not-counted-2 : goal.returns-then-not-counted-2
-returns-then-not-counted-2 c = rw c.no_counts-then-not-counted-2.ensures (counts_zones _ _ _ c.payload_byte-n.ensures (omega arith) _ c.payload_byte-z.ensures (omega arith) (sym c.counted.ensures ∙ c.if-not-counted.false) (sym c.counted-2.ensures ∙ c.if-not-counted-2.true))
+pub returns-in_err-zones : goal.returns-in_err-zones
+returns-in_err-zones c =
+    let a = c.args in
+    let p = err_from_is_err_and c.from_residual-in_err-zones.result c.from_residual-in_err-zones.ensures.1 in
+    rw (p.1, p.2) (counts_zones (held a.file.now a.m) _ c.in_ok-vertices.ensures _ _ c.in_err-zones.ensures)
 
 pub returns : goal.returns
-returns c = counts_good _ _ _ c.payload_byte-n.ensures (omega arith) _ c.payload_byte-z.ensures (omega arith) (sym c.counted.ensures ∙ c.if-not-counted.false) (sym c.counted-2.ensures ∙ c.if-not-counted-2.false)
+returns c = counts_good (held c.args.file.now c.args.m) _ c.in_ok-vertices.ensures _ c.in_ok-zones.ensures
