@@ -2,7 +2,7 @@
 #![tactic(auto)]
 
 ghost use Rattle.std.specs.Prelude.{◌≡◌};
-ghost use Rattle.numbering.specs.Kind.{number_of, Decodes};
+ghost use Rattle.numbering.specs.Kind.{number_of, least_of, Decodes};
 
 // A point.
 #[derive(Clone, Copy, Debug, PartialEq, Eq, PartialOrd, Ord)]
@@ -39,6 +39,16 @@ impl ZoneKind {
             ZoneKind::Hall => 2,
             ZoneKind::Clique => 3,
             ZoneKind::Ring => 4,
+        }
+    }
+
+    // The least size of a zone of this kind.
+    pub fn least_size(self) -> u8
+        ensures { result ≡ least_of self }
+    {
+        match self {
+            ZoneKind::Ring => 3,
+            ZoneKind::Stack | ZoneKind::Hall | ZoneKind::Clique => 1,
         }
     }
 }

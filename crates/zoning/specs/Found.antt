@@ -1,5 +1,5 @@
 -- What the zones are once they are read: the arrays hold them, and every vertex has a zone or not.
-use Rattle.std.specs.Prelude.{ℕ, ◌+◌, ◌≤◌, ◌<◌, ◌≡◌, zero, suc, refl, Bool, true, false, ◌&&◌, Result, IfOk, not, List, [], ◌∷◌, length, take, get_or, eqb}
+use Rattle.std.specs.Prelude.{ℕ, ◌+◌, ◌≤◌, ◌<◌, ◌≡◌, zero, suc, refl, Bool, true, false, ◌&&◌, Result, IfOk, not, List, [], ◌∷◌, map, length, take, get_or, eqb}
 use Rattle.std.proofs.Common.{ap, sym, ◌∙◌, arith}
 use Rattle.std.proofs.Math.Seq.{take-suc}
 use Rattle.std.proofs.lemmas.List.Folds.{list_all-append}
@@ -8,6 +8,7 @@ use Rattle.spec.specs.Outcome.{member, below}
 use Rattle.spec.specs.Layout.{Zone, Read, read_zones, listed, zone_from}
 use Rattle.theory.specs.Basics.Lists.{get_d_default}
 use Rattle.kinds.specs.Tests.{below_same}
+use Rattle.numbering.specs.Kind.{number_of}
 use Rattle.zoning.specs.declared.MapFault.{MapFault}
 use Rattle.zoning.specs.declared.Zones.{Zones}
 use Rattle.zoning.specs.declared.reading.Listing.{Listing}
@@ -16,7 +17,7 @@ use Rattle.zoning.specs.Zones.{Heads, zones_in, place_from}
 use Rattle.zoning.specs.Reading.{GoingAll}
 
 abbrev pub heads_of : Zones → Heads
-heads_of r = record { kind = r.kind; first = r.first; size = r.size }
+heads_of r = record { kind = map number_of r.kind; first = r.first; size = r.size }
 
 abbrev pub zones_read : Zones → ℕ → Read (List Zone)
 zones_read r c = record { it = zones_in (heads_of r) r.listed c; next = r.next }

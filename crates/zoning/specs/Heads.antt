@@ -1,41 +1,32 @@
 -- The counts of a map, and a zone's head, read step by step.
-use Rattle.std.specs.Prelude.{ℕ, ◌+◌, ◌≤◌, ◌<◌, ◌≡◌, refl, ◌⊎◌, Bool, true, false, Option, Some, None, List, eqb, leb}
+use Rattle.std.specs.Prelude.{ℕ, ◌+◌, ◌≤◌, ◌<◌, ◌≡◌, ◌≢◌, refl, ◌⊎◌, Bool, true, false, Option, Some, None, List, eqb, leb}
 use Rattle.std.proofs.Common.{ap, sym, ◌∙◌, inl, inr, leb→le, arith}
 use borrow.Author.Tests.{le-leb, lt-leb, ne_eqb}
 use Rattle.spec.specs.Outcome.{Outcome, ok, refuse, ◌>>=◌, ◌>>◌, check, ◌and◌}
 use Rattle.spec.specs.Layout as layout
 use Rattle.spec.specs.Layout.{byte_at, read_head, counts_of, least_size}
-use Rattle.theory.specs.Basics.Tests.{and_right}
+use Rattle.theory.specs.Basics.Tests.{and_left, and_right}
+use Rattle.numbering.specs.Kind.{number_of, least_of, number_low, number_high, no_number}
+use Rattle.numbering.specs.declared.ZoneKind.{ZoneKind}
+use Rattle.numbering.specs.declared.ZoneKind.TheVariants.{Stack, Hall, Clique, Ring}
 use Rattle.theory.specs.Basics.Outcomes.{ok_injective, passed, bound, bind}
 use Rattle.zoning.specs.declared.Head.{Head}
 use Rattle.zoning.specs.declared.Counts.{Counts}
 use Rattle.zoning.specs.Chain.{refused, tested, same_rest}
 
 abbrev pub head_in : Head → layout.Head
-head_in r = record { kind = r.kind; size = r.size }
+head_in r = record { kind = number_of r.kind; size = r.size }
 
 abbrev pub counts_in : Counts → layout.Counts
 counts_in r = record { vertices = r.vertices; zones = r.zones }
 
--- the least size of a kind; none where the number is no kind
-unfoldable pub least_of : ℕ → Option ℕ
-least_of kind = elim (leb 1 kind and leb kind 4) [ true ↦ Some (least_size kind) | false ↦ None ]
-
-pub least_low : (kind : ℕ) → 1 ≤ kind → kind ≤ 3 → Some 1 ≡ least_of kind
-unfolding least_of least_size ◌and◌
-least_low kind h l =
-    let n : (kind ≡ 4 → ⊥) = λ (e : kind ≡ 4). omega arith in
-    rw (least_of, le-leb 1 kind h, le-leb kind 4 (omega arith), least_size, ne_eqb kind 4 n)
-
-pub least_ring : (kind : ℕ) → kind ≡ 4 → Some 3 ≡ least_of kind
-unfolding least_of least_size ◌and◌
-least_ring kind e = sym (ap least_of e)
-
--- the other numbers have none
-pub least_none : (kind : ℕ) → (kind < 1) ⊎ (4 < kind) → None ≡ least_of kind
-unfolding least_of ◌and◌
-least_none kind (inl h) = rw (least_of, lt-leb 1 kind h)
-least_none kind (inr h) = let l : 1 ≤ kind = omega arith in rw (least_of, le-leb 1 kind l, lt-leb kind 4 h)
+-- the least size of a kind is its number's
+pub least_is : (kind : ZoneKind) → least_size (number_of kind) ≡ least_of kind
+unfolding least_size
+least_is Stack = refl
+least_is Hall = refl
+least_is Clique = refl
+least_is Ring = refl
 
 -- every kind has at least one vertex
 pub least_some : (kind : ℕ) → 1 ≤ least_size kind
@@ -46,51 +37,44 @@ least_some kind = go (eqb kind 4)
     go true = omega arith
     go false = omega arith
 
--- a number that is no kind has none
-no_kind : (kind : ℕ) → least_of kind ≡ None → (leb 1 kind and leb kind 4) ≡ false
-unfolding least_of
-no_kind kind e = go (leb 1 kind and leb kind 4) e
-  where
-    go : (b : Bool) → ◌≡◌ {A = Option ℕ} (elim b [ true ↦ Some (least_size kind) | false ↦ None ]) None → b ≡ false
-    go true e = cc
-    go false e = refl
+-- a kind's number is tested so, and no other
+a_kind : (kind : ZoneKind) → (leb 1 (number_of kind) and leb (number_of kind) 4) ≡ true
+unfolding ◌and◌
+a_kind kind = rw (le-leb 1 (number_of kind) (number_low kind), le-leb (number_of kind) 4 (number_high kind))
 
--- a kind has its own
-a_kind : (kind least : ℕ) → least_of kind ≡ Some least → ((leb 1 kind and leb kind 4) ≡ true) × (least_size kind ≡ least)
-unfolding least_of
-a_kind kind least e = go (leb 1 kind and leb kind 4) e
+no_kind : (n : ℕ) → ((kind : ZoneKind) → number_of kind ≢ n) → (leb 1 n and leb n 4) ≡ false
+no_kind n h = go (leb 1 n and leb n 4) refl
   where
-    go : (b : Bool) → ◌≡◌ {A = Option ℕ} (elim b [ true ↦ Some (least_size kind) | false ↦ None ]) (Some least) → (b ≡ true) × (least_size kind ≡ least)
-    go true e = (refl, cc)
-    go false e = cc
+    go : (b : Bool) → (leb 1 n and leb n 4) ≡ b → b ≡ false
+    go true e = absurd (no_number n h (leb→le 1 n (and_left (leb 1 n) (leb n 4) (rw e tt))) (leb→le n 4 (and_right (leb 1 n) (leb n 4) (rw e tt))))
+    go false e = refl
 
 module _ (p : List ℕ) (o : ℕ) where
   pub head_short : byte_at 15 p o ≡ refuse 15 o → read_head p o ≡ refuse 15 o
   unfolding read_head ◌>>=◌
   head_short e = rw (read_head, e)
 
-  module _ (kind : ℕ) (there : byte_at 15 p o ≡ ok kind) where
-    pub head_kind : least_of kind ≡ None → read_head p o ≡ refuse 16 o
+  pub head_kind : (n : ℕ) → byte_at 15 p o ≡ ok n → ((kind : ZoneKind) → number_of kind ≢ n) → read_head p o ≡ refuse 16 o
+  unfolding read_head ◌>>=◌ ◌>>◌ check
+  head_kind n there h = rw (read_head, there, no_kind n h)
+
+  module _ (kind : ZoneKind) (there : byte_at 15 p o ≡ ok (number_of kind)) where
+    pub head_end : byte_at 15 p (o + 1) ≡ refuse 15 (o + 1) → read_head p o ≡ refuse 15 (o + 1)
     unfolding read_head ◌>>=◌ ◌>>◌ check
-    head_kind e = rw (read_head, there, no_kind kind e)
+    head_end e = rw (read_head, there, a_kind kind, e)
 
-    module _ (least : ℕ) (known : least_of kind ≡ Some least) where
-      pub head_end : byte_at 15 p (o + 1) ≡ refuse 15 (o + 1) → read_head p o ≡ refuse 15 (o + 1)
+    module _ (size : ℕ) (behind : byte_at 15 p (o + 1) ≡ ok size) where
+      pub head_small : size < least_of kind → read_head p o ≡ refuse 16 (o + 1)
       unfolding read_head ◌>>=◌ ◌>>◌ check
-      head_end e = rw (read_head, there, (a_kind kind least known).0, e)
+      head_small h =
+          let l : size < least_size (number_of kind) = rw (least_is kind) h in
+          rw (read_head, there, a_kind kind, behind, lt-leb (least_size (number_of kind)) size l)
 
-      module _ (size : ℕ) (behind : byte_at 15 p (o + 1) ≡ ok size) where
-        pub head_small : size < least → read_head p o ≡ refuse 16 (o + 1)
-        unfolding read_head ◌>>=◌ ◌>>◌ check
-        head_small h =
-            let l : size < least_size kind = rw (a_kind kind least known).1 h in
-            rw (read_head, there, (a_kind kind least known).0, behind, lt-leb (least_size kind) size l)
-
-        pub head_good : least ≤ size → read_head p o ≡ ok (record { kind = kind; size = size })
-        unfolding read_head ◌>>=◌ ◌>>◌ check
-        head_good h =
-            let l : least_size kind ≤ size = rw (a_kind kind least known).1 h in
-            rw (read_head, there, (a_kind kind least known).0, behind, le-leb (least_size kind) size l)
+      pub head_good : least_of kind ≤ size → read_head p o ≡ ok (record { kind = number_of kind; size = size })
+      unfolding read_head ◌>>=◌ ◌>>◌ check
+      head_good h =
+          let l : least_size (number_of kind) ≤ size = rw (least_is kind) h in
+          rw (read_head, there, a_kind kind, behind, le-leb (least_size (number_of kind)) size l)
 
 -- one count
 unfoldable pub count_at : ℕ → List ℕ → ℕ → Outcome ℕ

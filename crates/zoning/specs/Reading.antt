@@ -149,7 +149,7 @@ module _ (p : List ℕ) (n z : ℕ) (h : Heads) (s t : Listing) (i o kind size :
 -- ---- the ways out
 
 abbrev pub no_heads : Heads
-no_heads = record { kind = replicate 64 0; first = replicate 64 0; size = replicate 64 0 }
+no_heads = record { kind = replicate 64 1; first = replicate 64 0; size = replicate 64 0 }
 
 pub all_start : (p : List ℕ) (n z : ℕ) → GoingAll p n z no_heads no_table 0 2
 unfolding zones_in zone_from place_from index_of listed

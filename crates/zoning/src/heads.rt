@@ -3,28 +3,21 @@ ghost use Rattle.std.specs.Prelude.{◌≡◌, ◌≤◌};
 ghost use Rattle.spec.specs.Layout.{read_head, counts_of};
 ghost use Rattle.zoning.specs.Fault.{answered};
 ghost use Rattle.zoning.specs.Bytes.{held};
-ghost use Rattle.zoning.specs.Heads.{least_of, count_at, head_in, counts_in};
+ghost use Rattle.zoning.specs.Heads.{count_at, head_in, counts_in};
 
 use crate::{Counts, Head, MapFault, byte};
-
-// The least size of a kind; none where the number is no kind.
-pub fn least_size(kind: u8) -> Option<u8>
-    ensures { result ≡ least_of kind }
-{
-    match kind {
-        1..=3 => Some(1),
-        4 => Some(3),
-        _ => None,
-    }
-}
+use numbering::ZoneKind;
 
 // The kind and size at offset o of a payload of m bytes.
 pub fn read_head(file: &[u8], m: usize, o: usize) -> Result<Head, MapFault>
     requires { o ≤ 65536 }
     ensures { read_head (held file.now m) o ≡ answered head_in result }
 {
-    let kind = byte(file, m, o).ok_or(MapFault::Short(o))?;
-    let least = least_size(kind).ok_or(MapFault::Range(o))?;
+    let number = byte(file, m, o).ok_or(MapFault::Short(o))?;
+    let Ok(kind) = ZoneKind::try_from(number) else {
+        return Err(MapFault::Range(o));
+    };
+    let least = kind.least_size();
     let q = o + 1;
     let size = byte(file, m, q).ok_or(MapFault::Short(q))?;
     if size < least {

@@ -11,6 +11,8 @@ ghost use Rattle.zoning.specs.Bytes.{held, found};
 pub mod heads;
 pub mod reading;
 
+use numbering::ZoneKind;
+
 // Why a map is refused whose blocks have passed, with the payload offset or the zone.
 #[derive(Clone, Copy, Debug, PartialEq, Eq)]
 pub enum MapFault {
@@ -31,7 +33,7 @@ pub struct Counts {
 // A zone's kind and size.
 #[derive(Clone, Copy)]
 pub struct Head {
-    pub kind: u8,
+    pub kind: ZoneKind,
     pub size: u8,
 }
 
@@ -39,7 +41,7 @@ pub struct Head {
 #[derive(Clone, Copy)]
 pub struct Zones {
     pub next: usize,
-    pub kind: [u8; 64],
+    pub kind: [ZoneKind; 64],
     pub first: [u8; 64],
     pub size: [u8; 64],
     pub listed: [u8; 128],

@@ -8,6 +8,7 @@ ghost use Rattle.zoning.specs.Found.{ZonesAre};
 
 use crate::heads::read_head;
 use crate::{MapFault, Zones, byte};
+use numbering::ZoneKind;
 
 // The `used` vertices that are listed, and the zone (255 for none) and place of each vertex.
 #[derive(Clone, Copy)]
@@ -58,7 +59,7 @@ pub fn read_zones(file: &[u8], m: usize, n: usize, z: usize) -> Result<Zones, Ma
     requires { (n ≤ 128) × (z ≤ 64) }
     ensures { ZonesAre (held file.now m) n z result }
 {
-    let mut kind = [0u8; 64];
+    let mut kind = [ZoneKind::Stack; 64];
     let mut first = [0u8; 64];
     let mut size = [0u8; 64];
     let mut listing = Listing {

@@ -1,5 +1,7 @@
 use Rattle.std.proofs.Common.{◌≡◌, refl, arith}
 use Rattle.std.proofs.lemmas.Result.{err_from_is_err_and}
+use Rattle.std.proofs.lemmas.List.{map-set}
+use Rattle.numbering.specs.Kind.{number_of}
 use Rattle.zoning.specs.Heads.{head_in}
 use Rattle.zoning.specs.Reading.{all_head, all_vertices, all_more, all_start, all_end}
 use Rattle.zoning.specs.Found.{all_held}
@@ -25,7 +27,7 @@ loop-i-preserved c =
     let o = c.loop-i in
     let r = rw c.from-count.ensures at c.in_ok-read.ensures in (
       omega (arith, o.invariant.0, c.from-count.ensures),
-      rw c.from-count.ensures (all_more _ _ _ _ _ _ _ _ _ _ r.going o.invariant.1 c.loop-i-test.true (omega arith) (head_in c.in_ok-head.head) c.in_ok-head.ensures refl refl r.answer),
+      rw (c.from-count.ensures, map-set number_of o.kind o.i c.in_ok-head.head.kind) (all_more _ _ _ _ _ _ _ _ _ _ r.going o.invariant.1 c.loop-i-test.true (omega arith) (head_in c.in_ok-head.head) c.in_ok-head.ensures refl refl r.answer),
     )
 
 pub returns : goal.returns
