@@ -3,4 +3,5 @@ pub mod Kinds
 pub mod Rest
 pub mod Map
 pub mod Tables
-pub mod Accepted
+pub mod Lists
+pub mod View

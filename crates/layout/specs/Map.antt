@@ -1,11 +1,12 @@
 -- The whole map: what was read is the map that the definition gives.
-use Rattle.std.specs.Prelude.{ℕ, ◌+◌, ◌*◌, ◌/◌, ◌≤◌, ◌<◌, ◌≡◌, refl, Result, Ok, Err, IfOk, OnOk, is_err, true, false, List, [], length, get_or, take, drop}
+use Rattle.std.specs.Prelude.{ℕ, ◌+◌, ◌*◌, ◌/◌, ◌≤◌, ◌<◌, ◌≡◌, refl, Result, Ok, Err, IfOk, OnOk, is_err, true, false, List, [], map, length, get_or, take, drop}
 use Rattle.std.proofs.Common.{ap, sym, ◌∙◌}
 use Rattle.spec.specs.Outcome.{Outcome, ok, refuse, ◌>>=◌, index_of}
 use Rattle.spec.specs.Wire.{payload_of}
 use Rattle.spec.specs.Layout.{Map, Edge, map_of, zone_of, zone_at}
 use Rattle.wire.specs.Payload.{payload}
 use Rattle.adjacency.specs.Rows.{blank, rows_of, join_all, Shows, shows_none}
+use Rattle.numbering.specs.Kind as kinds
 use Rattle.zoning.specs.declared.MapFault.{MapFault}
 use Rattle.zoning.specs.declared.Zones.{Zones}
 use Rattle.layout.specs.declared.MapTables.{MapTables}
@@ -72,7 +73,7 @@ abbrev pub made : ℕ → ℕ → Zones → MapTables
 made n z t = record {
   vertices = n;
   zones = z;
-  kind = t.kind;
+  kind = map kinds.number_of t.kind;
   first = t.first;
   size = t.size;
   listed = t.listed;

@@ -8,18 +8,30 @@ pub mod map;
 pub mod tables;
 
 pub use map::read_map;
-pub use tables::{entry, place_of, vertex_at, zone_entry, zone_of};
+
+use numbering::ZoneKind;
+use std::marker::Model;
 
 // A map. Zone z has the kind kind[z] and the vertices listed[first[z]] to listed[first[z] + size[z] - 1]; vertex v stands in zone
 // zone[v] at place place[v].
-#[derive(Clone, Copy)]
+#[derive(Drop)]
 pub struct MapTables {
-    pub vertices: u8,
-    pub zones: u8,
-    pub kind: [u8; 64],
-    pub first: [u8; 64],
-    pub size: [u8; 64],
-    pub listed: [u8; 128],
-    pub zone: [u8; 128],
-    pub place: [u8; 128],
+    vertices: u8,
+    zones: u8,
+    kind: [ZoneKind; 64],
+    first: [u8; 64],
+    size: [u8; 64],
+    listed: [u8; 128],
+    zone: [u8; 128],
+    place: [u8; 128],
+}
+
+impl Model for MapTables {
+    ghost use Rattle.layout.specs.Lists.{MapLists};
+
+    ghost Value = { MapLists };
+
+    ghost use Rattle.layout.specs.View.{view_of};
+
+    ghost view = { view_of };
 }

@@ -1,40 +1,88 @@
 // The tables of a map that was read: one by vertices is indexed by a vertex, one by zones by a zone, and by nothing else.
-ghost use Rattle.std.specs.Prelude.{◌≡◌};
-ghost use Rattle.layout.specs.Tables.{entry_of};
+ghost use Rattle.std.specs.Prelude.{◌≡◌, ◌↔◌, ◌<◌, IsTrue, get_or};
+ghost use Rattle.numbering.specs.Kind.{number_of};
+ghost use Rattle.layout.specs.Lists.{HasPart, part_of};
 
-use numbering::{Vertex, Zone};
+use crate::MapTables;
+use numbering::{Vertex, Zone, ZoneKind};
 
 // Entry i of a table, `none` past its end.
-pub fn entry<const N: usize>(table: &[u8; N], i: usize, none: u8) -> u8
-    ensures { result ≡ entry_of N none table.now i }
+fn entry<const N: usize>(table: &[u8; N], i: usize, none: u8) -> u8
+    ensures { result ≡ get_or table.now i none }
 {
     table.get(i).copied().unwrap_or(none)
 }
 
-// The zone of a vertex; 255 where there is none.
-pub fn zone_of(zone: &[u8; 128], v: Vertex) -> Zone
-    ensures { result.0 ≡ entry_of 128 255 zone.now v.0 }
-{
-    Zone(entry(zone, v.0 as usize, 255))
-}
+impl MapTables {
+    // How many vertices there are.
+    pub fn vertices(&self) -> usize
+        ensures { result ≡ self.now.vertices }
+    {
+        self.vertices as usize
+    }
 
-// The place of a vertex in its zone.
-pub fn place_of(place: &[u8; 128], v: Vertex) -> u8
-    ensures { result ≡ entry_of 128 0 place.now v.0 }
-{
-    entry(place, v.0 as usize, 0)
-}
+    // How many zones there are.
+    pub fn zones(&self) -> usize
+        ensures { result ≡ self.now.zones }
+    {
+        self.zones as usize
+    }
 
-// The vertex at a position of the listing.
-pub fn vertex_at(listed: &[u8; 128], i: usize) -> Vertex
-    ensures { result.0 ≡ entry_of 128 0 listed.now i }
-{
-    Vertex(entry(listed, i, 0))
-}
+    // The zone of a vertex; 255 where there is none.
+    pub fn zone_of(&self, v: Vertex) -> Zone
+        ensures { result.0 ≡ get_or self.now.zone v.0 255 }
+    {
+        Zone(entry(&self.zone, v.0 as usize, 255))
+    }
 
-// A zone's entry in the table of kinds, of first positions or of sizes.
-pub fn zone_entry(table: &[u8; 64], z: Zone) -> u8
-    ensures { result ≡ entry_of 64 0 table.now z.0 }
-{
-    entry(table, z.0 as usize, 0)
+    // The place of a vertex in its zone.
+    pub fn place_of(&self, v: Vertex) -> usize
+        ensures { result ≡ get_or self.now.place v.0 0 }
+    {
+        entry(&self.place, v.0 as usize, 0) as usize
+    }
+
+    // Is a zone one of the tables', with its vertices in the listing?
+    pub fn has_part(&self, z: Zone) -> bool
+        ensures { IsTrue result ↔ HasPart self.now z.0 }
+    {
+        let i = z.0 as usize;
+        if i >= 64 {
+            return false;
+        }
+        self.first[i] as usize + self.size[i] as usize <= 128
+    }
+
+    // The kind of a zone.
+    pub fn kind_of(&self, z: Zone) -> ZoneKind
+        requires { z.0 < 64 }
+        ensures { number_of result ≡ get_or self.now.kind z.0 0 }
+    {
+        self.kind[z.0 as usize]
+    }
+
+    // Where a zone's vertices begin in the listing.
+    pub fn first_of(&self, z: Zone) -> usize
+        requires { z.0 < 64 }
+        ensures { result ≡ get_or self.now.first z.0 0 }
+    {
+        self.first[z.0 as usize] as usize
+    }
+
+    // The size of a zone.
+    pub fn size_of(&self, z: Zone) -> usize
+        requires { z.0 < 64 }
+        ensures { result ≡ get_or self.now.size z.0 0 }
+    {
+        self.size[z.0 as usize] as usize
+    }
+
+    // The vertices of a zone in listed order.
+    pub fn vertices_of(&self, z: Zone) -> &[u8]
+        requires { HasPart self.now z.0 }
+        ensures { result.now ≡ part_of self.now z.0 }
+    {
+        let a = self.first_of(z);
+        &self.listed[a..a + self.size_of(z)]
+    }
 }

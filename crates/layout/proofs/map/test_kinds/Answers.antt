@@ -1,16 +1,28 @@
-use Rattle.std.proofs.Common.{sym, ◌∙◌, arith}
+use Rattle.std.proofs.Common.{◌≡◌, ℕ, ◌<◌, ap, sym, ◌∙◌, arith, rules, length, get_or}
+use Rattle.std.proofs.Math.ListN.{get_or-map}
+use Rattle.std.proofs.lemmas.List.{length-map}
+use mathlib.Core.List.{map}
+use Rattle.theory.specs.Basics.Lists.{get_d_default}
+use Rattle.numbering.specs.Kind.{number_of}
+use Rattle.kinds.specs.Tests.{kind_test}
 use Rattle.layout.specs.Kinds.{kinds_bad, kinds_good, kinds_all}
 use Rattle.layout.proofs.map.test_kinds.Goals as goal
 
 pub returns-then-not-of_kind : goal.returns-then-not-of_kind
 returns-then-not-of_kind c = λ m r.
     let o = c.loop-i in
-    o.invariant m r ∙ kinds_bad _ m _ _ _ _ o.i r c.loop-i-test.true (sym c.of_kind.ensures ∙ c.if-not-of_kind.true)
+    let zs = c.args.zones.now in
+    let l : o.i < length zs.kind = search rules in
+    let e : get_or (map number_of zs.kind) o.i 0 ≡ c.number.result = get_d_default (map number_of zs.kind) o.i 0 _ (omega (arith, length-map zs.kind number_of)) ∙ get_or-map number_of zs.kind o.i _ ∙ sym c.number.ensures in
+    o.invariant m r ∙ kinds_bad _ m _ _ _ _ o.i r c.loop-i-test.true (ap (λ (k : ℕ). kind_test c.args.rows.now zs.listed zs.zone o.i k (get_or zs.first o.i 0) (get_or zs.size o.i 0)) e ∙ sym c.of_kind.ensures ∙ c.if-not-of_kind.true)
 
 pub loop-i-preserved : goal.loop-i-preserved
 loop-i-preserved c = λ m r.
     let o = c.loop-i in
-    o.invariant m r ∙ kinds_good _ m _ _ _ _ o.i r c.loop-i-test.true (sym c.of_kind.ensures ∙ c.if-not-of_kind.false)
+    let zs = c.args.zones.now in
+    let l : o.i < length zs.kind = search rules in
+    let e : get_or (map number_of zs.kind) o.i 0 ≡ c.number.result = get_d_default (map number_of zs.kind) o.i 0 _ (omega (arith, length-map zs.kind number_of)) ∙ get_or-map number_of zs.kind o.i _ ∙ sym c.number.ensures in
+    o.invariant m r ∙ kinds_good _ m _ _ _ _ o.i r c.loop-i-test.true (ap (λ (k : ℕ). kind_test c.args.rows.now zs.listed zs.zone o.i k (get_or zs.first o.i 0) (get_or zs.size o.i 0)) e ∙ sym c.of_kind.ensures ∙ c.if-not-of_kind.false)
 
 pub returns : goal.returns
 returns c = λ m r.
