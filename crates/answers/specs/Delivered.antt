@@ -1,5 +1,5 @@
 -- What delivering an answer gives: document 01's 61, then 60, else the file and zeros.
-use Rattle.std.specs.Prelude.{ℕ, ◌+◌, ◌-◌, ◌*◌, ◌/◌, ◌≤◌, ◌<◌, ◌≡◌, refl, take, replicate}
+use Rattle.std.specs.Prelude.{ℕ, ◌+◌, ◌-◌, ◌*◌, ◌/◌, ◌≤◌, ◌<◌, ◌≡◌, refl, take, replicate, Result, Ok, Err}
 use Rattle.std.proofs.Math.Path.{ap, sym}
 use Rattle.std.proofs.Common.{◌∙◌, length-append, length-take-le, arith}
 use Rattle.std.proofs.Math.Logic.{⊎_elim}
@@ -13,11 +13,14 @@ use Rattle.spec.specs.Services.{Answer, fits, answer_of}
 use Rattle.wire.specs.Payload.{payload, payload_length, lt_or_ge}
 use Rattle.writer.specs.Laid.{laid_all, laid_length, laid_count_last, laid_payload}
 use Rattle.answers.specs.Sealed.{file_up, up_length}
-use Rattle.answers.specs.declared.Delivered.{Delivered}
+use Rattle.answers.specs.declared.Undelivered.{Undelivered}
+use Rattle.answers.specs.declared.Undelivered.TheVariants.{TooLong, NoRoom}
 
--- the answer that a returned pair and a buffer are
-abbrev pub answered : Delivered → List ℕ → Answer
-answered d o = record { number = d.number; value = d.value; buffer = o }
+-- the answer that a result and a buffer are: document 01's numbers for what is not delivered
+abbrev pub answered : Result ℕ Undelivered → List ℕ → Answer
+answered (Ok n) o = record { number = 0; value = n; buffer = o }
+answered (Err TooLong) o = record { number = 61; value = 0; buffer = o }
+answered (Err NoRoom) o = record { number = 60; value = 0; buffer = o }
 
 -- the payload of `len` bytes that stands in a buffer, zeros where the buffer ends before it
 unfoldable pub payload_in : ℕ → List ℕ → List ℕ
@@ -26,6 +29,12 @@ payload_in len o = take len (payload o ++ replicate len 0)
 -- the answer with the `len` bytes of payload that stand in a buffer
 unfoldable pub delivered_of : ℕ → ℕ → ℕ → List ℕ → Answer
 delivered_of kind limit len o = answer_of (length o) (fits kind limit (length o) (payload_in len o))
+
+-- what keeps the file of `len` payload bytes from its kind's blocks or from a buffer, or how many bytes it has
+abbrev pub Sized : ℕ → ℕ → ℕ → Result ℕ Undelivered → Type 0
+Sized room limit len (Ok n) = (n ≡ (len + 503) / 504 * 512) × (len ≤ 504 * limit) × ((len + 503) / 504 * 512 ≤ room)
+Sized room limit len (Err TooLong) = 504 * limit < len
+Sized room limit len (Err NoRoom) = (len ≤ 504 * limit) × (room < (len + 503) / 504 * 512)
 
 -- ---- the payload that stands in a buffer
 
@@ -85,6 +94,16 @@ module _ (kind limit len : ℕ) (o : List ℕ) where
       let e : length (file_of kind (take len (payload o))) ≡ (len + 503) / 504 * 512 = file_length kind (take len (payload o)) ∙ ap (λ (k : ℕ). (k + 503) / 504 * 512) (sym (ap length (payload_in_is len o g)) ∙ l) in
       ap (answer_of (length o)) (fits_whole kind limit (length o) (payload_in len o) (omega arith) (omega arith) ∙ ap (λ (p : List ℕ). ok (file_of kind p)) (payload_in_is len o g))
       ∙ rw e
+
+  -- the answer with a size
+  pub delivered_size : (n : ℕ) → Sized (length o) limit len (Ok n) → delivered_of kind limit len o
+      ≡ answered (Ok n) (file_of kind (take len (payload o)) ++ replicate (length o - (len + 503) / 504 * 512) 0)
+  delivered_size n w = rw w.0 (delivered_whole w.1 w.2)
+
+  -- the answer with a fault
+  pub delivered_fault : (e : Undelivered) → Sized (length o) limit len (Err e) → delivered_of kind limit len o ≡ answered (Err e) (replicate (length o) 0)
+  delivered_fault TooLong w = delivered_over w
+  delivered_fault NoRoom w = delivered_short w.0 w.1
 
   -- ---- what callers cite
 

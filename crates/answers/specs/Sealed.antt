@@ -1,9 +1,9 @@
 -- A whole file that is made in place.
-use Rattle.std.specs.Prelude.{ℕ, zero, suc, ◌+◌, ◌-◌, ◌*◌, ◌/◌, ◌≤◌, ◌≡◌, refl, ◌⊎◌, List, [], ◌++◌, length, take, drop, replicate}
-use Rattle.std.proofs.Common.{ap, sym, ◌∙◌, inl, inr, append_assoc, append-nil, length-append, length-take, length-drop, drop-drop, take-take, take_all, take_at, drop_at, add-one, arith}
-use Rattle.std.proofs.Math.Seq.{drop-length}
+use Rattle.std.specs.Prelude.{ℕ, zero, suc, ◌+◌, ◌-◌, ◌*◌, ◌/◌, ◌≤◌, ◌≡◌, ◌<◌, refl, List, [], ◌++◌, length, take, drop, replicate}
+use Rattle.std.proofs.Common.{ap, sym, ◌∙◌, ⊎_elim, append_assoc, append-nil, length-append, length-take, length-drop, drop-drop, take-take, take_all, take_at, drop_at, drop_of_length-le, min, add-one, arith}
+use borrow.Rule.Slice.PartMut.{put_mid}
 use Rattle.spec.specs.Wire.{block_of, blocks_from, file_of}
-use Rattle.wire.specs.Payload.{drop_take, payload, chunk, held_length}
+use Rattle.wire.specs.Payload.{drop_take, payload, chunk, held_length, lt_or_ge}
 use Rattle.answers.specs.Made.{block_length}
 
 -- the first k blocks of a payload
@@ -65,11 +65,13 @@ part_last f k len h g u =
     )
 
 -- either
-pub part_is : (f : List ℕ) (k len fill : ℕ) → (k + 1) * 512 ≤ length f → len ≤ length f / 512 * 504
-    → ((fill ≡ len - k * 504) × (len - k * 504 ≤ 504)) ⊎ ((fill ≡ 504) × (504 ≤ len - k * 504))
+pub part_is : (f : List ℕ) (k len fill : ℕ) → (k + 1) * 512 ≤ length f → len ≤ length f / 512 * 504 → fill ≡ min (len - k * 504) 504
     → take 504 (drop (k * 504) (take len (payload f))) ≡ take fill (drop (k * 512 + 6) f)
-part_is f k len fill h u (inl w) = part_last f k len h (omega arith) u ∙ ap (λ (x : ℕ). take x (drop (k * 512 + 6) f)) (sym w.0)
-part_is f k len fill h u (inr w) = part_full f k len h (omega arith) ∙ ap (λ (x : ℕ). take x (drop (k * 512 + 6) f)) (sym w.0)
+part_is f k len fill h u e =
+    ⊎_elim
+    (λ (w : len - k * 504 < 504). let q : fill ≡ len - k * 504 = omega arith in rw q (part_last f k len h (omega arith) u))
+    (λ (w : 504 ≤ len - k * 504). let q : fill ≡ 504 = omega arith in rw q (part_full f k len h (omega arith)))
+    (lt_or_ge (len - k * 504) 504)
 
 -- ---- block after block is finished in the buffer
 
@@ -98,13 +100,12 @@ pub up_all : (f : List ℕ) (kind k : ℕ) (p : List ℕ) → k * 512 ≤ length
 up_all f kind k p h = length-append (up_to kind p k) (drop (k * 512) f) ∙ omega (arith, up_length kind p k, length-drop (k * 512) f)
 
 -- the file, with zeros behind it
-pub seal_end : (f m x : List ℕ) (kind len n : ℕ) → len ≤ length f / 512 * 504 → n ≡ (len + 503) / 504
-    → m ≡ up_to kind (take len (payload f)) n ++ drop (n * 512) f → length m ≡ length f
-    → x ≡ take (n * 512) m ++ replicate (length m - n * 512) 0 ++ drop (length m) m
-    → x ≡ file_of kind (take len (payload f)) ++ replicate (length f - (len + 503) / 504 * 512) 0
-seal_end f m x kind len n u e w s z =
+pub seal_end : (f m z : List ℕ) (kind len n k j : ℕ) → len ≤ length f / 512 * 504 → n ≡ (len + 503) / 504
+    → m ≡ up_to kind (take len (payload f)) n ++ drop (n * 512) f → length m ≡ length f → z ≡ replicate j 0 → j ≡ length m - n * 512 → k ≡ length m - n * 512
+    → put_mid (n * 512) k m z ≡ file_of kind (take len (payload f)) ++ replicate (length f - (len + 503) / 504 * 512) 0
+seal_end f m z kind len n k j u e w s y o q =
     let p : List ℕ = take len (payload f) in
-    let y : length p ≡ len = held_length f len u in
-    let l : length (up_to kind p n) ≡ n * 512 = up_length kind p n in
-    let t : take (n * 512) m ≡ up_to kind p n = ap (take (n * 512)) w ∙ take_at (up_to kind p n) (drop (n * 512) f) (n * 512) l in
-    z ∙ rw (t, drop-length m, append-nil (up_to kind p n ++ replicate (length m - n * 512) 0), s, e, file_up kind p, y)
+    let v : length p ≡ len = held_length f len u in
+    let t : take (n * 512) m ≡ up_to kind p n = ap (take (n * 512)) w ∙ take_at (up_to kind p n) (drop (n * 512) f) (n * 512) (up_length kind p n) in
+    let d : drop (length m - n * 512) (drop (n * 512) m) ≡ [] = drop_of_length-le (drop (n * 512) m) {i = length m - n * 512} (omega (arith, length-drop (n * 512) m)) in
+    rw (y, o, q, t, d, append-nil {A = ℕ} (replicate (length m - n * 512) 0), s, e, file_up kind p, v)

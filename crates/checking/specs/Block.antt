@@ -1,6 +1,6 @@
 -- A block at an offset of a file.
-use Rattle.std.specs.Prelude.{ℕ, zero, suc, ◌+◌, ◌-◌, ◌*◌, ◌≤◌, ◌<◌, ◌≡◌, refl, Bool, true, false, List, ◌∷◌, length, get_or, take, drop, eqb, leb}
-use Rattle.std.proofs.Common.{ap, ◌∙◌, drop-cons, drop-drop, take-take, get_or-drop, get_or-take, leb-true, eqb-true, ne_eqb, add-one, arith}
+use Rattle.std.specs.Prelude.{ℕ, zero, suc, ◌+◌, ◌-◌, ◌*◌, ◌≤◌, ◌<◌, ◌≡◌, refl, Bool, true, false, List, [], ◌∷◌, fold, get_or, take, drop, eqb, leb}
+use Rattle.std.proofs.Common.{ap, sym, ◌∙◌, drop-drop, take-take, get_or-drop, get_or-take, leb-true, eqb-true, ne_eqb, arith}
 use Rattle.std.specs.Int.Bits.{bit_or, or_zero_l, or_add_and}
 use Rattle.std.proofs.lemmas.Nat.{and_le_r}
 use Rattle.spec.specs.Outcome.{all, ◌and◌}
@@ -16,39 +16,24 @@ block_at f at = take 512 (drop at f)
 abbrev pub sum_ok : List ℕ → Bool
 sum_ok b = eqb (word b 510) (checksum (take 510 b))
 
--- ---- a range of zeros, tested from its front
+-- ---- bytes that are all zero, by the bits of all of them together
 
--- a range is its first byte and the rest
-range_cons : (f : List ℕ) (o e : ℕ) → o < e → e ≤ length f → take (e - o) (drop o f) ≡ get_or f o 0 ∷ take (e - (o + 1)) (drop (o + 1) f)
-range_cons f o e h l =
-    let h1 : o < length f = omega arith in
-    let s : e - o ≡ suc (e - suc o) = omega arith in
-    rw (add-one o, s, drop-cons f o 0 h1)
+-- from bits that are set before
+or_all_from : (a : ℕ) (xs : List ℕ) → eqb (fold bit_or a xs) 0 ≡ (eqb a 0 and all (λ x. eqb x 0) xs)
+unfolding all ◌and◌
+or_all_from zero [] = refl
+or_all_from (suc a) [] = rw (ne_eqb (suc a) 0 (λ z. omega (arith, z)))
+or_all_from a (b ∷ rest) = or_all_from (bit_or a b) rest ∙ sym (go a b)
+  where
+    go : (a b : ℕ) → (eqb a 0 and all (λ x. eqb x 0) (b ∷ rest)) ≡ (eqb (bit_or a b) 0 and all (λ x. eqb x 0) rest)
+    go zero zero = rw (or_zero_l 0)
+    go zero (suc b) = front_not (suc b) rest (λ z. omega (arith, z)) ∙ rw (or_zero_l (suc b), ne_eqb (suc b) 0 (λ z. omega (arith, z)))
+    go (suc a) b = rw (ne_eqb (suc a) 0 (λ z. omega (arith, z)), ne_eqb (bit_or (suc a) b) 0 (λ z. omega (arith, z, or_add_and (suc a) b, and_le_r (suc a) b)))
 
--- no bit is set at the start
-pub zeros_first : (b : Bool) → (eqb 0 0 and b) ≡ b
+-- none is set at the end where each byte is zero
+pub or_all : (xs : List ℕ) → eqb (fold bit_or 0 xs) 0 ≡ all (λ x. eqb x 0) xs
 unfolding ◌and◌
-zeros_first b = refl
-
--- the bits of one byte more: none is set before, and the rest is zeros
-pub zeros_more : (f : List ℕ) (o e any : ℕ) → o < e → e ≤ length f
-    → (eqb any 0 and all (λ x. eqb x 0) (take (e - o) (drop o f))) ≡ (eqb (bit_or any (get_or f o 0)) 0 and all (λ x. eqb x 0) (take (e - (o + 1)) (drop (o + 1) f)))
-unfolding all ◌and◌
-zeros_more f o e any h l = rw (range_cons f o e h l) (go any (get_or f o 0) (take (e - (o + 1)) (drop (o + 1) f)))
-  where
-    go : (a b : ℕ) (rest : List ℕ) → (eqb a 0 and all (λ x. eqb x 0) (b ∷ rest)) ≡ (eqb (bit_or a b) 0 and all (λ x. eqb x 0) rest)
-    go zero zero rest = rw (or_zero_l 0)
-    go zero (suc b) rest = front_not (suc b) rest (λ z. omega (arith, z)) ∙ rw (or_zero_l (suc b), ne_eqb (suc b) 0 (λ z. omega (arith, z)))
-    go (suc a) b rest = rw (ne_eqb (suc a) 0 (λ z. omega (arith, z)), ne_eqb (bit_or (suc a) b) 0 (λ z. omega (arith, z, or_add_and (suc a) b, and_le_r (suc a) b)))
-
--- nothing is left to test
-pub zeros_none : (f : List ℕ) (o e any : ℕ) → e ≤ o → (eqb any 0 and all (λ x. eqb x 0) (take (e - o) (drop o f))) ≡ eqb any 0
-unfolding all ◌and◌
-zeros_none f o e any h = let z : e - o ≡ 0 = omega arith in rw z (go (eqb any 0))
-  where
-    go : (b : Bool) → (b and true) ≡ b
-    go true = refl
-    go false = refl
+or_all xs = or_all_from 0 xs
 
 -- ---- a block's parts, in the file
 

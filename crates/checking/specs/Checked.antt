@@ -1,6 +1,6 @@
 -- What the check of a file says, and that it says what `payload_of` does.
 use Prim.Native.Nat.{ℕ, suc, ◌+◌, ◌-◌, ◌*◌, ◌/◌, ◌%◌, ◌≤◌, ◌<◌}
-use Rattle.std.specs.Prelude.{◌≡◌, refl, Bool, true, false, List, [], ◌++◌, length, take, drop, eqb}
+use Rattle.std.specs.Prelude.{◌≡◌, refl, Bool, true, false, List, [], ◌++◌, length, take, drop, eqb, Result, Ok, Err}
 use Rattle.std.proofs.Common.{ap, subst, ◌∙◌, drop-drop, take-take, take-add}
 use Rattle.std.proofs.Math.Path.{sym}
 use borrow.Author.Tests.{eqb-true, eqb-false, eq-eqb, ne_eqb, le-leb, lt-leb}
@@ -9,16 +9,16 @@ use Rattle.spec.specs.Outcome.{Outcome, ok, refuse, ◌>>◌, check, ◌and◌}
 use Rattle.spec.specs.Wire.{word, head_ok, filled, fill_ok, payload_from, payload_of}
 use Rattle.checking.specs.Block.{block_at, sum_ok, block_word, block_part, fill_filled, filled_le, filled_some, filled_full}
 use Rattle.wire.specs.Payload.{payload, chunk}
-use Rattle.checking.specs.declared.Checked.{Checked}
-use Rattle.checking.specs.declared.Checked.TheVariants.{Payload, Length, Checksum, Head, Fill}
+use Rattle.checking.specs.declared.FileFault.{FileFault}
+use Rattle.checking.specs.declared.FileFault.TheVariants.{Length, Checksum, Head, Fill}
 
 -- document 01's number and place for each case; `base` is 10, 20, 30, 40 for map, placing, plan, moves
-abbrev pub checked_of : ℕ → List ℕ → Checked → Outcome (List ℕ)
-checked_of base f (Payload m) = ok (take m (payload f))
-checked_of base f Length = refuse (base + 1) 0
-checked_of base f (Checksum i) = refuse (base + 2) i
-checked_of base f (Head i) = refuse (base + 3) i
-checked_of base f (Fill i) = refuse (base + 4) i
+abbrev pub checked_of : ℕ → List ℕ → Result ℕ FileFault → Outcome (List ℕ)
+checked_of base f (Ok m) = ok (take m (payload f))
+checked_of base f (Err Length) = refuse (base + 1) 0
+checked_of base f (Err (Checksum i)) = refuse (base + 2) i
+checked_of base f (Err (Head i)) = refuse (base + 3) i
+checked_of base f (Err (Fill i)) = refuse (base + 4) i
 
 -- a file with a payload of m bytes is whole blocks, within the limit, and has room for them
 pub record Whole (limit : ℕ) (f : List ℕ) (m : ℕ) : Type 0 where
@@ -28,23 +28,23 @@ pub record Whole (limit : ℕ) (f : List ℕ) (m : ℕ) : Type 0 where
   pub limited : length f ≤ limit * 512
 
 -- what callers know of each case: a payload stands in the file; a block that is refused is within the limit
-abbrev pub Held : ℕ → List ℕ → Checked → Type 0
-Held limit f (Payload m) = Whole limit f m
-Held limit f Length = Unit {0}
-Held limit f (Checksum i) = i < limit
-Held limit f (Head i) = i < limit
-Held limit f (Fill i) = i < limit
+abbrev pub Held : ℕ → List ℕ → Result ℕ FileFault → Type 0
+Held limit f (Ok m) = Whole limit f m
+Held limit f (Err Length) = Unit {0}
+Held limit f (Err (Checksum i)) = i < limit
+Held limit f (Err (Head i)) = i < limit
+Held limit f (Err (Fill i)) = i < limit
 
 -- ---- what callers cite where a check has come out as `s`
 
 -- the definition comes out so too
-pub read_as : (base kind limit : ℕ) (f : List ℕ) (r s : Checked) → checked_of base f r ≡ payload_of base kind limit f → r ≡ s
+pub read_as : (base kind limit : ℕ) (f : List ℕ) (r s : Result ℕ FileFault) → checked_of base f r ≡ payload_of base kind limit f → r ≡ s
     → payload_of base kind limit f ≡ checked_of base f s
 read_as base kind limit f r s e z = sym e ∙ ap (checked_of base f) z
 
 -- and the case's facts hold
-pub held_as : (limit : ℕ) (f : List ℕ) (r s : Checked) → Held limit f r → r ≡ s → Held limit f s
-held_as limit f r s h z = subst (λ (x : Checked). Held limit f x) z h
+pub held_as : (limit : ℕ) (f : List ℕ) (r s : Result ℕ FileFault) → Held limit f r → r ≡ s → Held limit f s
+held_as limit f r s h z = subst (λ (x : Result ℕ FileFault). Held limit f x) z h
 
 -- ---- one block
 

@@ -9,10 +9,9 @@ ghost use Rattle.checking.specs.Checked.{checked_of, Held};
 
 use checksum::{total, word_at};
 
-// What a file is: a payload of so many bytes, or which of document 01's four refusals at which block.
-#[derive(Clone, Copy)]
-pub enum Checked {
-    Payload(usize),
+// Which of document 01's four refusals a file meets, and at which block.
+#[derive(Clone, Copy, Debug, PartialEq, Eq)]
+pub enum FileFault {
     Length,
     Checksum(usize),
     Head(usize),
@@ -28,13 +27,10 @@ fn sum_ok(file: &[u8], at: usize) -> bool
     let stored = word_at(file, at + 510);
     let all_ones = stored == 65535;
     if all_ones {
-        return zeros(file, at, at + 510);
+        return zeros(&file[at..at + 510]);
     }
     let s = total(file, at);
-    if s == 0 {
-        return false;
-    }
-    s % 65535 == 0
+    s != 0 && s % 65535 == 0
 }
 
 // Are bytes 0-3 the kind, zero, and the block's number i?
@@ -42,43 +38,26 @@ fn head_ok(file: &[u8], at: usize, i: usize, kind: u8) -> bool
     requires { at + 512 ≤ length file.now }
     ensures { result ≡ head_ok kind i (block_at file.now at) }
 {
-    let k = file[at];
-    if k != kind {
-        return false;
-    }
-    let z = file[at + 1];
-    if z != 0 {
-        return false;
-    }
-    word_at(file, at + 2) == i
+    file[at] == kind && file[at + 1] == 0 && word_at(file, at + 2) == i
 }
 
 // May a block hold n bytes of payload?
 fn fill_allowed(n: usize, last: bool) -> bool
     ensures { result ≡ filled last n }
 {
-    if !last {
-        return n == 504;
+    if last {
+        let some = 1 <= n;
+        some && n <= 504
+    } else {
+        n == 504
     }
-    let some = 1 <= n;
-    if some {
-        return n <= 504;
-    }
-    false
 }
 
-// Are the bytes from `from` to before `end` all 0?
-fn zeros(file: &[u8], from: usize, end: usize) -> bool
-    requires { (from ≤ «end») × («end» ≤ length file.now) }
-    ensures { result ≡ all (λ x. eqb x 0) (take («end» - from) (drop from file.now)) }
+// Are all these bytes 0? It has no early exit, so that several are tested at once.
+fn zeros(bytes: &[u8]) -> bool
+    ensures { result ≡ all (λ x. eqb x 0) bytes.now }
 {
-    let mut any: u8 = 0;
-    let mut o = from;
-    while o < end {
-        any = any | file[o];
-        o += 1;
-    }
-    any == 0
+    bytes.iter().fold(0, |any, b| any | *b) == 0
 }
 
 // Is the fill allowed, and the padding after it zero?
@@ -87,42 +66,31 @@ fn fill_ok(file: &[u8], at: usize, last: bool) -> bool
     ensures { result ≡ fill_ok last (block_at file.now at) }
 {
     let n = word_at(file, at + 4);
-    if fill_allowed(n, last) {
-        return zeros(file, at + 6 + n, at + 510);
-    }
-    false
+    fill_allowed(n, last) && zeros(&file[at + 6 + n..at + 510])
 }
 
-// What a file of this kind and at most `limit` blocks is.
-pub fn check_file(file: &[u8], kind: u8, limit: usize) -> Checked
+// The length of the payload of a file of this kind and at most `limit` blocks.
+pub fn check_file(file: &[u8], kind: u8, limit: usize) -> Result<usize, FileFault>
     ensures by_index { (base : ℕ) → checked_of base file.now result ≡ payload_of base kind limit file.now }
     ensures held { Held limit file.now result }
 {
     let count = file.len() / 512;
-    if file.len() % 512 != 0 {
-        return Checked::Length;
+    if file.len() % 512 != 0 || count < 1 || count > limit {
+        return Err(FileFault::Length);
     }
-    if count < 1 {
-        return Checked::Length;
-    }
-    if count > limit {
-        return Checked::Length;
-    }
-    let mut i: usize = 0;
-    let mut len: usize = 0;
-    while i < count {
+    let mut len = 0;
+    for i in 0..count {
         let at = i * 512;
         if !sum_ok(file, at) {
-            return Checked::Checksum(i);
+            return Err(FileFault::Checksum(i));
         }
         if !head_ok(file, at, i, kind) {
-            return Checked::Head(i);
+            return Err(FileFault::Head(i));
         }
         if !fill_ok(file, at, i + 1 == count) {
-            return Checked::Fill(i);
+            return Err(FileFault::Fill(i));
         }
         len += word_at(file, at + 4);
-        i += 1;
     }
-    Checked::Payload(len)
+    Ok(len)
 }

@@ -1,7 +1,7 @@
 -- The push of a robot in a ring, and pushes one after the other.
-use Rattle.std.specs.Prelude.{◌≡◌, refl, ◌≢◌, ℕ, zero, suc, ◌+◌, ◌-◌, ◌<◌, ◌≤◌, length, get_or, set, drop}
+use Rattle.std.specs.Prelude.{◌≡◌, refl, ◌≢◌, ℕ, zero, suc, ◌+◌, ◌<◌, ◌≤◌, length, get_or, set, drop}
 use Rattle.std.proofs.Math.Path.{ap}
-use Rattle.std.proofs.Common.{sym, ◌∙◌, add-one, arith, not-suc-le-zero, drop_of_length-le, drop-cons, get_or-set_other}
+use Rattle.std.proofs.Common.{sym, ◌∙◌, add-one, arith, drop_of_length-le, drop-cons, get_or-set_other}
 use mathlib.Core.List.{List, [], ◌∷◌, ◌++◌, map, map-append}
 use Rattle.spec.specs.Arrangement.{Arrangement, Move, mv, apply_all, seek}
 use Rattle.spec.specs.Ring.{wrap, frame, in_ring, shove, push, pushes, ahead, push_to, ring_leave}
@@ -111,12 +111,11 @@ inside_push s vs p h =
     rw arrangement_length
     (inside_shove (length vs) p h (run_at s vs p) 0 (run_named s vs p h) (omega (arith, run_short (frame p (arrangement_of s vs)), frame_size s vs p h)))
 
--- the first of n pushes
-pushes_more : (n : ℕ) (a b : Arrangement) (p q : ℕ) → 0 < n → b ≡ apply_all a (push a p) → q ≡ next_place (length a) p
-    → pushes n a p ≡ push a p ++ pushes (n - 1) b q
+-- the first of n + 1 pushes
+pushes_more : (n k : ℕ) (a b : Arrangement) (p q : ℕ) → n ≡ suc k → b ≡ apply_all a (push a p) → q ≡ next_place (length a) p
+    → pushes n a p ≡ push a p ++ pushes k b q
 unfolding pushes
-pushes_more zero a b p q h e d = absurd (not-suc-le-zero h)
-pushes_more (suc n) a b p q h e d = let z : suc n - 1 ≡ n = omega arith in rw (z, e, d)
+pushes_more n k a b p q h e d = rw (h, e, d)
 
 -- no push
 pushes_none : (n : ℕ) (a : Arrangement) (p : ℕ) → n ≡ 0 → pushes n a p ≡ []
@@ -141,16 +140,16 @@ inside_pushes (suc n) s vs p L h =
     (inside_pushes n t vs (next_place (length vs) p) M (next_under (length vs) p h)))
 
 -- one push, then the rest
-pub pushes_step : (w u : World) (vs : List ℕ) (p q n : ℕ) → Listed (length w.state.robots) vs → p < length vs → 0 < n
+pub pushes_step : (w u : World) (vs : List ℕ) (p q n k : ℕ) → Listed (length w.state.robots) vs → p < length vs → n ≡ suc k
     → q ≡ next_place (length vs) p → u ≡ made_all w (across vs (push (arrangement_of w.state vs) p))
-    → made_all u (across vs (pushes (n - 1) (arrangement_of u.state vs) q))
+    → made_all u (across vs (pushes k (arrangement_of u.state vs) q))
     ≡ made_all w (across vs (pushes n (arrangement_of w.state vs) p))
 unfolding arrangement_of
-pushes_step w u vs p q n M h z d k =
-    made_both w u vs (push (arrangement_of w.state vs) p) (pushes (n - 1) (arrangement_of u.state vs) q) k
+pushes_step w u vs p q n k M h z d e =
+    made_both w u vs (push (arrangement_of w.state vs) p) (pushes k (arrangement_of u.state vs) q) e
     ∙ ap (λ (ms : List Move). made_all w (across vs ms))
-    (sym (pushes_more n (arrangement_of w.state vs) (arrangement_of u.state vs) p q z
-    (arranged w u vs (push (arrangement_of w.state vs) p) M (inside_push w.state vs p h) k)
+    (sym (pushes_more n k (arrangement_of w.state vs) (arrangement_of u.state vs) p q z
+    (arranged w u vs (push (arrangement_of w.state vs) p) M (inside_push w.state vs p h) e)
     (d ∙ ap (λ (m : ℕ). next_place m p) (sym (arrangement_length w.state vs)))))
 
 -- no push left

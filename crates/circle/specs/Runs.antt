@@ -1,7 +1,11 @@
 -- A ring read from one of its places on, and the run of taken places there.
-use Rattle.std.specs.Prelude.{◌≡◌, refl, ◌≢◌, ℕ, zero, suc, ◌+◌, ◌-◌, ◌<◌, ◌≤◌, List, [], ◌∷◌, ◌++◌, length, get_or, take, drop}
-use Rattle.std.proofs.Common.{ap, sym, ◌∙◌, ⊎_elim, add-one, arith, not-suc-le-zero, length-append, length-drop, drop_of_length-le, drop-cons, get_or-append-add, get_or-take, get_or-drop, length-take-le}
+use Rattle.std.specs.Prelude.{◌≡◌, refl, ◌≢◌, not, ℕ, zero, suc, ◌+◌, ◌-◌, ◌<◌, ◌≤◌, List, [], ◌∷◌, ◌++◌, length, get_or, take, drop, eqb}
+use Rattle.std.specs.List.{prefix_len}
+use Rattle.std.proofs.Common.{ap, ap₂, sym, ◌∙◌, ⊎_elim, add-one, arith, not-suc-le-zero, length-append, length-drop, drop-cons, eq-eqb, ne_eqb, get_or-append-add, get_or-take, get_or-drop, length-take-le}
 use Rattle.std.proofs.Math.ListN.{get_or-append}
+use Rattle.std.proofs.Math.Decide.{ℕ_discrete}
+use Rattle.std.proofs.lemmas.List.{take-map, drop-map}
+use mathlib.Core.List.{map-append}
 use Rattle.spec.specs.Arrangement.{Arrangement}
 use Rattle.spec.specs.Ring.{wrap, frame, run}
 use Rattle.spec.specs.State.{State, cell_of, robot_on, arrangement_of}
@@ -37,11 +41,6 @@ pub run_free : (f : Arrangement) (k : ℕ) → k < length f → get_or f k 0 ≡
 unfolding run
 run_free f k h e = rw (drop-cons f k 0 h, e)
 
--- past all places too
-run_past : (f : Arrangement) (k : ℕ) → length f ≤ k → run (drop k f) ≡ []
-unfolding run
-run_past f k h = rw (drop_of_length-le f h)
-
 -- the k-th robot of the run stands k places on
 pub run_cell : (f : Arrangement) (k : ℕ) → k < length (run f) → get_or f k 0 ≡ suc (get_or (run f) k 0)
 unfolding run
@@ -61,9 +60,24 @@ run_short (suc r ∷ f) = let i = run_short f in omega arith
 abbrev pub run_at : State → List ℕ → ℕ → List ℕ
 run_at s vs p = run (frame p (arrangement_of s vs))
 
--- how many robots of that run stand from the k-th place on
-abbrev pub run_from : State → List ℕ → ℕ → ℕ → ℕ
-run_from s vs p k = length (run (drop k (frame p (arrangement_of s vs))))
+-- the run of a ring read from its first place on: as many robots as places are taken before the first empty one
+run_prefix : (s : State) (vs : List ℕ) → prefix_len (λ v. not (eqb (robot_on s v) 255)) vs ≡ length (run (arrangement_of s vs))
+unfolding run arrangement_of
+run_prefix s [] = refl
+run_prefix s (v ∷ vs) = at (ℕ_discrete (robot_on s v) 255) (run_prefix s vs)
+  where
+    at : Dec (robot_on s v ≡ 255) → prefix_len (λ w. not (eqb (robot_on s w) 255)) vs ≡ length (run (arrangement_of s vs))
+        → prefix_len (λ w. not (eqb (robot_on s w) 255)) (v ∷ vs) ≡ length (run (cell_of (robot_on s v) ∷ arrangement_of s vs))
+    at (yes e) i = rw (eq-eqb _ _ e, cell_none e) refl
+    at (no n) i = rw (ne_eqb _ _ n, cell_of_lem n) (omega (arith, i))
+
+-- the run at place p, counted over the zone's vertices from that place on
+pub run_counted : (s : State) (vs : List ℕ) (p : ℕ) → prefix_len (λ v. not (eqb (robot_on s v) 255)) (drop p vs ++ take p vs) ≡ length (run_at s vs p)
+unfolding frame arrangement_of
+run_counted s vs p =
+    run_prefix s (drop p vs ++ take p vs)
+    ∙ ap (λ (f : Arrangement). length (run f))
+    (map-append (λ v. cell_of (robot_on s v)) (drop p vs) (take p vs) ∙ ap₂ (λ (x y : Arrangement). x ++ y) (sym (drop-map _ p vs)) (sym (take-map _ p vs)))
 
 module _ (s : State) (vs : List ℕ) (p : ℕ) (h : p < length vs) where
   -- the ring read from p on is as long as the zone
@@ -76,20 +90,6 @@ module _ (s : State) (vs : List ℕ) (p : ℕ) (h : p < length vs) where
       frame_at (arrangement_of s vs) p k (omega (arith, arrangement_length s vs)) (omega (arith, arrangement_length s vs))
       ∙ ap (λ (m : ℕ). get_or (arrangement_of s vs) (wrap m (p + k)) 0) (arrangement_length s vs)
       ∙ arrangement_at s vs (wrap (length vs) (p + k)) (wrap_under (length vs) p k h (omega arith))
-
-  -- the run goes on past a robot
-  pub run_on : (k r : ℕ) → k < length vs → r ≡ robot_on s (get_or vs (wrap (length vs) (p + k)) 0) → r ≢ 255 → k + 1 + run_from s vs p (k + 1) ≡ k + run_from s vs p k
-  run_on k r l e n =
-      omega (arith, ap length (run_taken (frame p (arrangement_of s vs)) k r (omega (arith, frame_size)) (frame_robot k l ∙ ap cell_of (sym e) ∙ cell_of_lem n)))
-
-  -- it ends where nobody stands
-  pub run_stops : (k r : ℕ) → k < length vs → r ≡ robot_on s (get_or vs (wrap (length vs) (p + k)) 0) → r ≡ 255 → k ≡ k + run_from s vs p k
-  run_stops k r l e n =
-      omega (arith, ap length (run_free (frame p (arrangement_of s vs)) k (omega (arith, frame_size)) (frame_robot k l ∙ ap cell_of (sym e) ∙ cell_none n)))
-
-  -- it ends after a whole round
-  pub run_round : (k : ℕ) → length vs ≤ k → k ≡ k + run_from s vs p k
-  run_round k l = omega (arith, ap length (run_past (frame p (arrangement_of s vs)) k (omega (arith, frame_size))))
 
   -- whoever stands k places on is the k-th robot of the run
   pub run_robot : (k r : ℕ) → k < length (run_at s vs p) → k < length vs → r ≡ robot_on s (get_or vs (wrap (length vs) (p + k)) 0) → r ≡ get_or (run_at s vs p) k 0

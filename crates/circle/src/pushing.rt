@@ -5,56 +5,43 @@ ghost use Rattle.spec.specs.Ring.{pushes, push_to};
 ghost use Rattle.spec.specs.State.{across, arrangement_of};
 ghost use Rattle.motion.specs.World.{world, made_all};
 ghost use Rattle.motion.specs.Coupling.{Listed};
+ghost use Rattle.circle.specs.Runs.{run_at};
 ghost use Rattle.circle.specs.Pushes.{pushed};
 
-use crate::places::{beside, distance, next};
+use crate::places::{around, distance, next};
+use crate::reading::robot_at;
 use cells::{place_of, vertex_at};
 use motion::State;
-use numbering::Robot;
+use numbering::{Robot, Vertex};
+
+// How many robots stand in the run of taken places forward from place p, with the one on p.
+fn run_length(state: &State, zone: &[u8], p: usize) -> usize
+    requires { p < length zone.now }
+    ensures { result ≡ length (run_at state.now zone.now p) }
+{
+    zone[p..]
+        .iter()
+        .chain(&zone[..p])
+        .take_while(|&&v| state.robot_on(Vertex(v)) != Robot(255))
+        .count()
+}
 
 // "in the run of taken points forward from it, the foremost cart of the run moves first, each one place, the pushed cart
 // last": the robot on place p is pushed. It is read before the run moves: in a full ring the foremost one takes its place.
-pub fn push(
-    state: &mut State,
-    count: usize,
-    zone: &[u8],
-    p: usize,
-    out: &mut [u8],
-) -> usize
+pub fn push(state: &mut State, count: usize, zone: &[u8], p: usize, out: &mut [u8]) -> usize
     requires p_in_bounds { p < length zone.now }
     requires listed { Listed (length state.old.robots) zone.now }
     ensures { world state.new result out.new ≡ made_all (world state.old count out.old) (across zone.now (pushed (arrangement_of state.old zone.now) p)) }
 {
     let m = zone.len();
-    let first = state.robot_on(vertex_at(zone, p));
-    let mut at = p;
-    let mut k: usize = 0;
-    let end = loop {
-        if k == m {
-            break at;
-        }
-        let v = vertex_at(zone, at);
-        let r = state.robot_on(v);
-        if r.0 == 255 {
-            break at;
-        }
-        at = next(m, at);
-        k += 1;
-    };
+    let first = robot_at(state, zone, p);
     let mut count = count;
-    let mut to = end;
-    while 0 < k {
-        let from = beside(m, to, false);
-        let v = vertex_at(zone, from);
-        let w = vertex_at(zone, to);
-        let mut r = state.robot_on(v);
-        k -= 1;
+    for k in (0..run_length(state, zone, p)).rev() {
+        let v = vertex_at(zone, around(m, p, k));
+        let w = vertex_at(zone, around(m, p, k + 1));
         let last = k == 0;
-        if last {
-            r = first;
-        }
+        let r = if last { first } else { state.robot_on(v) };
         count = state.make(count, r, v, w, out);
-        to = from;
     }
     count
 }
@@ -74,11 +61,9 @@ pub fn push_times(
 {
     let mut count = count;
     let mut at = p;
-    let mut left = n;
-    while 0 < left {
+    for _ in 0..n {
         count = push(state, count, zone, at, out);
         at = next(zone.len(), at);
-        left -= 1;
     }
     count
 }

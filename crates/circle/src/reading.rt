@@ -5,27 +5,19 @@ ghost use Rattle.circle.specs.Reading.{vacant};
 
 use cells::vertex_at;
 use motion::State;
-use numbering::Robot;
+use numbering::{Robot, Vertex};
 
 // The robot on place i.
 pub fn robot_at(state: &State, zone: &[u8], i: usize) -> Robot
     ensures { result.0 ≡ robot_on state.now (get_or zone.now i 0) }
 {
-    let v = vertex_at(zone, i);
-    state.robot_on(v)
+    state.robot_on(vertex_at(zone, i))
 }
 
 // Does nobody stand there.
 pub fn is_vacant(state: &State, zone: &[u8]) -> bool
     ensures { result ≡ vacant (arrangement_of state.now zone.now) }
 {
-    let mut i: usize = 0;
-    while i < zone.len() {
-        let x = robot_at(state, zone, i);
-        if x.0 != 255 {
-            return false;
-        }
-        i += 1;
-    }
-    true
+    zone.iter()
+        .all(|&v| state.robot_on(Vertex(v)) == Robot(255))
 }

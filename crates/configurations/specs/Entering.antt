@@ -1,5 +1,6 @@
 -- Who can enter a zone that is not full, by the list of its robots, and the list afterwards: one law for each way through the code.
-use Rattle.std.specs.Prelude.{◌≡◌, refl, Bool, List, ℕ, suc, ◌+◌, ◌-◌, ◌≤◌, ◌<◌, get_or, take, eqb}
+use Rattle.std.specs.Prelude.{◌≡◌, refl, Bool, List, ℕ, suc, ◌+◌, ◌-◌, ◌≤◌, ◌<◌, get_or, take, drop, ◌++◌, eqb, Option, Some, None, MatchOption}
+use Rattle.std.specs.Bool.{then_some}
 use Rattle.std.proofs.Math.Path.{sym}
 use Rattle.std.proofs.Common.{ap, ap₂, ◌∙◌}
 use Rattle.std.proofs.Math.Bool.{true, false}
@@ -8,7 +9,7 @@ use Rattle.std.proofs.Math.Decide.{ℕ_discrete}
 use Rattle.std.proofs.Math.ListN.{length}
 use lib.Seq.{length-take-le}
 use borrow.Author.Tests.{eq-eqb, ne_eqb, lt-ltb, le-ltb}
-use Rattle.spec.specs.Outcome.{◌and◌, index_of}
+use Rattle.spec.specs.Outcome.{◌and◌, member, index_of}
 use Rattle.spec.specs.Hall.{room}
 use Rattle.spec.specs.Ring.{wrap}
 use Rattle.spec.specs.ZoneKind.{by_kind}
@@ -18,28 +19,31 @@ use Rattle.reaching.specs.Reach.{member_index}
 use Rattle.orders.specs.Orders.{without, put_in, entry_in, turned_by, ring_entered, clique_entered, entered}
 use Rattle.orders.specs.Orders.{same_members, list_met, clique_enters, ring_enters, hall_enters, enter_test}
 use Rattle.orders.specs.Lengths.{without_length, put_length}
-use Rattle.rosters.specs.Lists.{Rewritten, put_as}
+use Rattle.rosters.specs.Lists.{Rewritten, put_as, turn_first}
 
 -- where a robot comes into the list, where it fills no clique
 unfoldable pub entry_on : ℕ → ℕ → List ℕ → ℕ
 entry_on kind behind l = by_kind kind (length l) (entry_in behind l) (entry_in behind l)
 
--- what the search for the index `at` at which a robot comes into n finds: that index where the test lets it in, more than n where not
-pub record EntryFound (test : Bool) (n at q : ℕ) : Type 0 where
-  pub met : q ≤ n → test ≡ true
-  pub index : q ≤ n → q ≡ at
-  pub unmet : n < q → test ≡ false
+-- what the search for the named one gives: where a robot comes into the list l after it, where that one is inside
+abbrev pub EntryIndex : List ℕ → ℕ → Option ℕ → Type 0
+EntryIndex l behind found = MatchOption found (length l < entry_in behind l) (λ t. (t ≤ length l) × (t ≡ entry_in behind l))
+
+-- what the search for the index `at` at which a robot comes into n finds: that index where the test lets it in
+abbrev pub EntryFound : Bool → ℕ → ℕ → Option ℕ → Type 0
+EntryFound test n at found = MatchOption found (test ≡ false) (λ q. (test ≡ true) × (q ≤ n) × (q ≡ at))
 
 -- found by equal tests
-pub found_as : (x y : Bool) (n a b q : ℕ) → x ≡ y → a ≡ b → EntryFound x n a q → EntryFound y n b q
-found_as x y n a b q e d f = record { met = λ h. sym e ∙ f.met h; index = λ h. f.index h ∙ d; unmet = λ h. sym e ∙ f.unmet h }
+pub found_as : {x y : Bool} {n m a b : ℕ} (q : Option ℕ) → x ≡ y → n ≡ m → a ≡ b → EntryFound x n a q → EntryFound y m b q
+found_as q e h d f = rw (← e, ← h, ← d) f
 
--- found, or not
-pub found_at : (x : Bool) (n a q : ℕ) → x ≡ true → q ≡ a → q ≤ n → EntryFound x n a q
-found_at x n a q e d h = record { met = λ z. e; index = λ z. d; unmet = λ z. absurd (omega arith) }
-
-pub found_not : (x : Bool) (n a q : ℕ) → x ≡ false → n < q → EntryFound x n a q
-found_not x n a q e h = record { met = λ z. absurd (omega arith); index = λ z. absurd (omega arith); unmet = λ z. e }
+-- found where the test lets it in
+pub found_if : {x y : Bool} {o : Option ℕ} (n a q : ℕ) → y ≡ x → q ≡ a → q ≤ n → o ≡ then_some y q → EntryFound x n a o
+found_if {x} {y} n a q e d h s = rw s (go y e)
+  where
+    go : (y : Bool) → y ≡ x → EntryFound x n a (then_some y q)
+    go true e = (sym e, h, d)
+    go false e = sym e
 
 -- ---- by kind
 
@@ -87,63 +91,59 @@ module _ (kind : ℕ) (i : IsHall kind) where
 
 -- ---- on the list
 
-module _ (l : List ℕ) (n : ℕ) (e : length l ≡ n) (behind : ℕ) where
-  -- the named one is inside, or none is named
-  pub hall_named : (size j t : ℕ) → t ≡ entry_in behind l → t ≤ n → room size j t (n - t) ≡ hall_enters size l j behind
+module _ (l : List ℕ) (behind : ℕ) where
+  -- the named one is inside a hall, or none is named
+  pub hall_named : (size j t : ℕ) → t ≡ entry_in behind l → t ≤ length l → room size j t (length l - t) ≡ hall_enters size l j behind
   unfolding hall_enters entry_in ◌and◌
   hall_named size j t i h = at (ℕ_discrete behind 255)
     where
-      same : room size j t (n - t) ≡ room size j (entry_in behind l) (length l - entry_in behind l)
-      same = rw (← i, e)
+      same : room size j t (length l - t) ≡ room size j (entry_in behind l) (length l - entry_in behind l)
+      same = rw (← i)
 
-      at : Dec (behind ≡ 255) → room size j t (n - t) ≡ hall_enters size l j behind
+      at : Dec (behind ≡ 255) → room size j t (length l - t) ≡ hall_enters size l j behind
       at (yes d) = same ∙ rw (eq-eqb _ _ d, hall_enters, entry_in, ◌and◌)
       at (no d) =
           let k : index_of behind l < length l = omega (arith, rw (ne_eqb _ _ d, entry_in) at i) in
           same ∙ rw (ne_eqb _ _ d, member_index behind l ∙ lt-ltb (index_of behind l) (length l) k, hall_enters, entry_in, ◌and◌)
 
   -- the named one is not inside
-  pub hall_unnamed : (size j t : ℕ) → t ≡ entry_in behind l → n < t → hall_enters size l j behind ≡ false
+  pub hall_unnamed : (size j : ℕ) → length l < entry_in behind l → hall_enters size l j behind ≡ false
   unfolding hall_enters entry_in ◌and◌
-  hall_unnamed size j t i h = at (ℕ_discrete behind 255)
+  hall_unnamed size j h = at (ℕ_discrete behind 255)
     where
       at : Dec (behind ≡ 255) → hall_enters size l j behind ≡ false
-      at (yes d) = absurd (omega (arith, rw (eq-eqb _ _ d, entry_in) at i))
+      at (yes d) = absurd (omega (arith, rw (eq-eqb _ _ d, entry_in) at h))
       at (no d) =
-          let k : length l ≤ index_of behind l = omega (arith, rw (ne_eqb _ _ d, entry_in) at i) in
+          let k : length l ≤ index_of behind l = omega (arith, rw (ne_eqb _ _ d, entry_in) at h) in
           rw (ne_eqb _ _ d, member_index behind l ∙ le-ltb (index_of behind l) (length l) k, hall_enters, entry_in, ◌and◌)
 
-  module _ (t : ℕ) (i : t ≡ index_of behind l) where
-    -- in a ring: none is named, and it has no robot or that one
-    pub ring_first : behind ≡ 255 → (t ≡ n → n ≡ 0) → t ≤ n → EntryFound (ring_enters l behind) n (entry_in behind l) 0
-    unfolding ring_enters entry_in
-    ring_first d h b = found_at (ring_enters l behind) n (entry_in behind l) 0 (at (ℕ_discrete n 0)) (sym (rw (eq-eqb _ _ d, entry_in))) (omega arith)
-      where
-        at : Dec (n ≡ 0) → ring_enters l behind ≡ true
-        at (yes z) = rw (eq-eqb (length l) 0 (e ∙ z), ring_enters) (eq-eqb _ _ d)
-        at (no z) = rw (ne_eqb (length l) 0 (λ y. z (sym e ∙ y)), ring_enters) (member_index behind l ∙ lt-ltb (index_of behind l) (length l) (less (ℕ_discrete t n)))
-          where
-            less : Dec (t ≡ n) → index_of behind l < length l
-            less (yes y) = absurd (z (h y))
-            less (no y) = omega arith
+  -- none is named in a ring that has robots, and not that one
+  pub ring_none : (length l ≡ 0 → ⊥) → member behind l ≡ false → ring_enters l behind ≡ false
+  unfolding ring_enters
+  ring_none z m = rw (ne_eqb (length l) 0 z, ring_enters) m
 
-    -- none is named, and it has robots
-    pub ring_none : t ≡ n → (n ≡ 0 → ⊥) → EntryFound (ring_enters l behind) n (entry_in behind l) (n + 1)
-    unfolding ring_enters
-    ring_none y z = found_not (ring_enters l behind) n (entry_in behind l) (n + 1)
-        (rw (ne_eqb (length l) 0 (λ w. z (sym e ∙ w)), ring_enters) (member_index behind l ∙ le-ltb (index_of behind l) (length l) (omega arith))) (omega arith)
+  -- else it is as in a hall
+  pub ring_found : (o : Option ℕ) → (behind ≡ 255 → (length l ≡ 0 → ⊥) → member behind l ≡ true) → EntryIndex l behind o → EntryFound (ring_enters l behind) (length l) (entry_in behind l) o
+  unfolding ring_enters entry_in
+  ring_found None m h = let k = named h in at (ℕ_discrete (length l) 0)
+    where
+      named : length l < entry_in behind l → (behind ≡ 255 → ⊥) × (length l ≤ index_of behind l)
+      named h = go (ℕ_discrete behind 255)
+        where
+          go : Dec (behind ≡ 255) → (behind ≡ 255 → ⊥) × (length l ≤ index_of behind l)
+          go (yes d) = absurd (omega (arith, rw (eq-eqb _ _ d, entry_in) at h))
+          go (no d) = (d, omega (arith, rw (ne_eqb _ _ d, entry_in) at h))
 
-    -- one is named
-    pub ring_named : (behind ≡ 255 → ⊥) → t ≤ n → EntryFound (ring_enters l behind) n (entry_in behind l) (t + 1)
-    unfolding ring_enters entry_in
-    ring_named d b = record { met = λ h. let z = inside h in z; index = λ h. sym (rw (ne_eqb _ _ d, entry_in) (omega arith)); unmet = λ h. outside h (ℕ_discrete n 0) }
-      where
-        inside : t + 1 ≤ n → ring_enters l behind ≡ true
-        inside h = rw (ne_eqb (length l) 0 (λ y. omega arith), ring_enters) (member_index behind l ∙ lt-ltb (index_of behind l) (length l) (omega arith))
-
-        outside : n < t + 1 → Dec (n ≡ 0) → ring_enters l behind ≡ false
-        outside h (yes z) = rw (eq-eqb (length l) 0 (e ∙ z), ring_enters) (ne_eqb _ _ d)
-        outside h (no z) = rw (ne_eqb (length l) 0 (λ y. z (sym e ∙ y)), ring_enters) (member_index behind l ∙ le-ltb (index_of behind l) (length l) (omega arith))
+      at : Dec (length l ≡ 0) → ring_enters l behind ≡ false
+      at (yes z) = rw (eq-eqb (length l) 0 z, ring_enters) (ne_eqb _ _ (named h).0)
+      at (no z) = rw (ne_eqb (length l) 0 z, ring_enters) (member_index behind l ∙ le-ltb (index_of behind l) (length l) (named h).1)
+  ring_found (Some t) m h = (at (ℕ_discrete (length l) 0) (ℕ_discrete behind 255), h.0, h.1)
+    where
+      at : Dec (length l ≡ 0) → Dec (behind ≡ 255) → ring_enters l behind ≡ true
+      at (yes z) (yes d) = rw (eq-eqb (length l) 0 z, ring_enters) (eq-eqb _ _ d)
+      at (yes z) (no d) = absurd (omega (arith, rw (ne_eqb _ _ d, entry_in) at h.1, h.0))
+      at (no z) (yes d) = rw (ne_eqb (length l) 0 z, ring_enters) (m d z)
+      at (no z) (no d) = rw (ne_eqb (length l) 0 z, ring_enters) (member_index behind l ∙ lt-ltb (index_of behind l) (length l) (omega (arith, rw (ne_eqb _ _ d, entry_in) at h.1, h.0)))
 
 -- ---- filling a clique
 
@@ -200,6 +200,10 @@ pub entry_after : (behind t : ℕ) (l : List ℕ) → (behind ≡ 255 → ⊥) �
 unfolding entry_in
 entry_after behind t l h i = sym (rw (ne_eqb _ _ h, entry_in) (omega arith))
 
+pub entry_none : (behind : ℕ) (l : List ℕ) → (behind ≡ 255 → ⊥) → length l ≡ index_of behind l → length l < entry_in behind l
+unfolding entry_in
+entry_none behind l h i = rw (ne_eqb _ _ h, entry_in) (omega arith)
+
 -- how far a filled ring is turned: past its end, or not
 pub turn_past : (n t j : ℕ) → j < n → t < j → n + t - j ≡ wrap n (n + t - j)
 unfolding wrap
@@ -231,9 +235,9 @@ module _ (l : List ℕ) (n r : ℕ) where
   clique_more list h = sym (rw (ne_eqb (suc (length l)) n h, clique_entered))
 
 -- a robot put in, then the first turned: the list of a filled ring
-pub ring_filled : (p s o : List ℕ) (n size r j behind t q : ℕ) → size ≤ length p → n + 1 ≡ size → t ≡ entry_in behind (take n p) → q ≡ wrap size (size + t - j)
-    → Rewritten p (n + 1) (put_in t r (take n p)) s → Rewritten s size (turned_by q (take size s)) o → Rewritten p size (ring_entered size (take n p) r j behind) o
-ring_filled p s o n size r j behind t q h e i w a b = put_as p size (turned_by q (put_in t r (take n p))) (ring_entered size (take n p) r j behind) o list both
+pub ring_filled : (p s x : List ℕ) (n size r j behind t q : ℕ) → size ≤ length p → n + 1 ≡ size → t ≡ entry_in behind (take n p) → q ≡ wrap size (size + t - j) → q ≤ size
+    → Rewritten p (n + 1) (put_in t r (take n p)) s → x ≡ drop q (take size s) ++ take q (take size s) → Rewritten p size (ring_entered size (take n p) r j behind) (x ++ drop size s)
+ring_filled p s x n size r j behind t q h e i w b a d = put_as p size (turned_by q (put_in t r (take n p))) (ring_entered size (take n p) r j behind) (x ++ drop size s) list both
   where
     long : length (take n p) ≡ n
     long = length-take-le n p (omega arith)
@@ -244,10 +248,10 @@ ring_filled p s o n size r j behind t q h e i w a b = put_as p size (turned_by q
     stored : take size s ≡ put_in t r (take n p)
     stored = let m : size ≡ length (put_in t r (take n p)) = omega (arith, put_length t r (take n p), long) in ap (λ (k : ℕ). take k s) m ∙ a.here
 
-    second : Rewritten s size (turned_by q (put_in t r (take n p))) o
-    second = put_as s size (turned_by q (take size s)) (turned_by q (put_in t r (take n p))) o (ap (turned_by q) stored) b
+    second : Rewritten s size (turned_by q (put_in t r (take n p))) (x ++ drop size s)
+    second = put_as s size (turned_by q (take size s)) (turned_by q (put_in t r (take n p))) (x ++ drop size s) (ap (turned_by q) stored) (turn_first s x size q (omega (arith, a.long)) b d)
 
-    both : Rewritten p size (turned_by q (put_in t r (take n p))) o
+    both : Rewritten p size (turned_by q (put_in t r (take n p))) (x ++ drop size s)
     both = record { long = second.long ∙ a.long; here = second.here; past = λ k d. second.past k d ∙ a.past k (omega arith) }
 
 -- a robot put in where it fills no clique

@@ -1,82 +1,58 @@
 // Who can enter a zone that is not full, by the list of its robots, the first n of a part, and the list afterwards.
-ghost use Rattle.std.specs.Prelude.{◌≡◌, List, ℕ, suc, ◌+◌, ◌-◌, ◌*◌, ◌/◌, ◌≤◌, ◌<◌, length, take, eqb};
+ghost use Rattle.std.specs.Prelude.{◌≡◌, List, ℕ, suc, ◌+◌, ◌-◌, ◌*◌, ◌/◌, ◌≤◌, ◌<◌, length, take};
 ghost use Rattle.spec.specs.Ring.{wrap};
 ghost use Rattle.orders.specs.Orders.{entry_in, ring_entered, entered};
 ghost use Rattle.orders.specs.Orders.{list_met, clique_enters, ring_enters, hall_enters, enter_test};
 ghost use Rattle.walking.specs.Held.{held_part};
 ghost use Rattle.rosters.specs.Lists.{Rewritten};
-ghost use Rattle.configurations.specs.Entering.{EntryFound, entry_on};
+ghost use Rattle.configurations.specs.Entering.{EntryIndex, EntryFound, entry_on};
 
 use reaching::reach::has_room;
 use rosters::finding::index_in;
-use rosters::lists::{insert, remove, turn_first};
+use rosters::lists::{insert, remove};
 use rosters::members::same_members;
 use walking::copy_list;
 
-// Where a robot comes in that has the named one behind it; past the end where that one is not inside.
-fn entry_index(part: &[u8], n: usize, behind: u8) -> usize
-    requires { n ≤ length part.now }
-    ensures { result ≡ entry_in behind (take n part.now) }
+// Where a robot comes in that has the named one behind it, where that one is inside.
+fn entry_index(list: &[u8], behind: u8) -> Option<usize>
+    ensures { EntryIndex list.now behind result }
 {
     if behind == 255 {
-        return 0;
+        return Some(0);
     }
-    index_in(part, n, behind) + 1
+    let t = index_in(list, behind)?;
+    Some(t + 1)
 }
 
-// The same in a hall, at place j; n + 1 where it can't.
-fn hall_entry(part: &[u8], n: usize, size: usize, j: usize, behind: u8) -> usize
-    requires { (n < size) × (size ≤ length part.now) }
-    ensures { EntryFound (hall_enters size (take n part.now) j behind) n (entry_in behind (take n part.now)) result }
+// The same in a hall, at place j.
+fn hall_entry(list: &[u8], size: usize, j: usize, behind: u8) -> Option<usize>
+    requires { length list.now < size }
+    ensures { EntryFound (hall_enters size list.now j behind) (length list.now) (entry_in behind list.now) result }
 {
-    let t = entry_index(part, n, behind);
-    if n < t {
-        return n + 1;
-    }
-    let room = has_room(size, j, t, n - t);
-    if room {
-        return t;
-    }
-    n + 1
+    let t = entry_index(list, behind)?;
+    has_room(size, j, t, list.len() - t).then_some(t)
 }
 
-// In a ring.
-fn ring_entry(part: &[u8], n: usize, behind: u8) -> usize
-    requires { n < length part.now }
-    ensures { EntryFound (ring_enters (take n part.now) behind) n (entry_in behind (take n part.now)) result }
+// In a ring: only where it is empty may none be named.
+fn ring_entry(list: &[u8], behind: u8) -> Option<usize>
+    ensures { EntryFound (ring_enters list.now behind) (length list.now) (entry_in behind list.now) result }
 {
-    let t = index_in(part, n, behind);
-    if behind == 255 {
-        if t == n {
-            if n != 0 {
-                return n + 1;
-            }
-        }
-        return 0;
+    if behind == 255 && !list.is_empty() && !list.contains(&behind) {
+        return None;
     }
-    t + 1
+    entry_index(list, behind)
 }
 
-// In a clique that is not filled: last.
-fn clique_entry(n: usize, behind: u8) -> usize
-    requires { n < 128 }
-    ensures { EntryFound (eqb behind 255) n n result }
-{
-    if behind == 255 {
-        return n;
-    }
-    n + 1
-}
-
-// "Entering needs a reachable one with to empty and the named neighbour": where a robot comes in at place j, where it fills no clique; n + 1 where it can't.
-pub fn entry_at(kind: u8, part: &[u8], n: usize, size: usize, j: usize, behind: u8) -> usize
+// "Entering needs a reachable one with to empty and the named neighbour": where a robot comes in at place j, if it can, where it fills no clique.
+pub fn entry_at(kind: u8, part: &[u8], n: usize, size: usize, j: usize, behind: u8) -> Option<usize>
     requires { (n < size) × (size ≤ length part.now) × (size ≤ 128) × (kind ≡ 3 → suc n ≡ size → ⊥) }
     ensures { (r : ℕ) (list : List ℕ) → EntryFound (enter_test kind size (take n part.now) r j behind list) n (entry_on kind behind (take n part.now)) result }
 {
+    let list = &part[..n];
     match kind {
-        3 => clique_entry(n, behind),
-        4 => ring_entry(part, n, behind),
-        _ => hall_entry(part, n, size, j, behind),
+        3 => (behind == 255).then_some(n),
+        4 => ring_entry(list, behind),
+        _ => hall_entry(list, size, j, behind),
     }
 }
 
@@ -89,7 +65,7 @@ fn list_met(part: &[u8], n: usize, r: u8, j: usize, list: &mut [u8]) -> bool
         return false;
     }
     remove(list, n + 1, j);
-    same_members(part, n, list, n)
+    same_members(&part[..n], &list[..n])
 }
 
 // The same of the follow list that stands in the payload from `from` on; it is copied into the lent bytes.
@@ -147,11 +123,10 @@ fn ring_enter(part: &mut [u8], n: usize, size: usize, t: usize, r: u8, j: usize)
     ensures { (behind : ℕ) → t ≡ entry_in behind (take n part.old) → Rewritten part.old size (ring_entered size (take n part.old) r j behind) part.new }
 {
     insert(part, n, t, r);
-    if n + 1 != size {
-        return;
+    if n + 1 == size {
+        let q = turn_count(size, t, j);
+        part[..size].rotate_left(q);
     }
-    let q = turn_count(size, t, j);
-    turn_first(part, size, q);
 }
 
 // Robot r comes in before the one at index t, at place j, and fills no clique: the list is the one of the configuration after the step.

@@ -1,5 +1,6 @@
 -- Who can leave a zone, by the list of its robots: one law for each way through the code.
-use Rattle.std.specs.Prelude.{◌≡◌, refl, Bool, true, List, [], ◌∷◌, get_or, take, eqb}
+use Rattle.std.specs.Prelude.{◌≡◌, refl, Bool, true, List, [], ◌∷◌, get_or, take, eqb, position, Option, Some, None, MatchOption}
+use Rattle.std.specs.Bool.{then_some}
 use Rattle.std.proofs.Math.Path.{sym, ap₂}
 use Rattle.std.proofs.Common.{◌∙◌, length-take-le, get_or-take}
 use Rattle.std.proofs.Math.Bool.{false}
@@ -14,20 +15,12 @@ use Rattle.spec.specs.ZoneKind.{by_kind}
 use Rattle.theory.specs.Basics.Tests.{of_true, of_false}
 use Rattle.theory.specs.Zones.Kinds.{KindOf, clique, ring, hall, kind?, as_hall}
 use Rattle.reaching.specs.Reach.{member_index}
+use Rattle.rosters.specs.Finding.{index_found, index_missing}
 use Rattle.orders.specs.Orders.{pinned, hall_leaves, leave_test}
 
--- what the search for a leaver, robot r of the n robots l, finds: its index where the test lets it out, n or more where not
-pub record LeaveFound (test : Bool) (r n : ℕ) (l : List ℕ) (q : ℕ) : Type 0 where
-  pub met : q < n → test ≡ true
-  pub index : q < n → q ≡ index_of r l
-  pub unmet : n ≤ q → test ≡ false
-
--- a bound that is further off does as well
-pub found_within : (x : Bool) (r n k : ℕ) (l : List ℕ) (q : ℕ) → q < n → n ≤ k → LeaveFound x r n l q → LeaveFound x r k l q
-found_within x r n k l q h b f = record { met = λ z. f.met h; index = λ z. f.index h; unmet = λ z. absurd (omega arith) }
-
-pub found_none : (x : Bool) (r n k : ℕ) (l : List ℕ) (q : ℕ) → n ≤ q → LeaveFound x r n l q → LeaveFound x r k l k
-found_none x r n k l q h f = record { met = λ z. absurd (omega arith); index = λ z. absurd (omega arith); unmet = λ z. f.unmet h }
+-- what the search for a leaver, robot r of the n robots l, finds: its index where the test lets it out
+abbrev pub LeaveFound : Bool → ℕ → ℕ → List ℕ → Option ℕ → Type 0
+LeaveFound test r n l found = MatchOption found (test ≡ false) (λ q. (test ≡ true) × (q < n) × (q ≡ index_of r l))
 
 -- ---- the test, in the code's order
 
@@ -125,26 +118,33 @@ module _ (l : List ℕ) (n size r j t : ℕ) (e : length l ≡ n) (i : t ≡ ind
 
 -- ---- on the first n of a part
 
-module _ (kind : ℕ) (p : List ℕ) (n size r j t : ℕ) (fits : n ≤ length p) (b : j < size) (i : t ≡ index_of r (take n p)) where
+module _ (kind : ℕ) (p : List ℕ) (n size r j : ℕ) (fits : n ≤ length p) (b : j < size) where
   -- they are n
   long : length (take n p) ≡ n
   long = length-take-le n p fits
 
   -- r is not in the zone
-  none_test_lem : n ≤ t → leave_test kind size (take n p) r j ≡ false
+  none_test_lem : n ≤ index_of r (take n p) → leave_test kind size (take n p) r j ≡ false
   unfolding leave_test
-  none_test_lem k = ap₂ (λ (x z : Bool). by_kind kind x x z) (pinned_none (take n p) n size r j t long i k b) (hall_none (take n p) n size r j t long i k) ∙ chosen_none (kind? kind)
+  none_test_lem k = ap₂ (λ (x z : Bool). by_kind kind x x z) (pinned_none (take n p) n size r j _ long refl k b) (hall_none (take n p) n size r j _ long refl k) ∙ chosen_none (kind? kind)
 
-  pub leaver_none : n ≤ t → LeaveFound (leave_test kind size (take n p) r j) r n (take n p) n
-  leaver_none k = record { met = λ z. absurd (omega arith); index = λ z. absurd (omega arith); unmet = λ z. none_test_lem k }
+  pub leaver_none : {o f : Option ℕ} → o ≡ position (eqb r) (take n p) → o ≡ None → f ≡ None → LeaveFound (leave_test kind size (take n p) r j) r n (take n p) f
+  leaver_none e m d = rw d (none_test_lem (omega (arith, index_missing r (take n p) e m, long)))
 
   -- it is, and can leave or not
-  goes_test : t < n → goes kind n size (get_or p j 0) r t j ≡ leave_test kind size (take n p) r j
+  goes_test : (t : ℕ) → t ≡ index_of r (take n p) → t < n → goes kind n size (get_or p j 0) r t j ≡ leave_test kind size (take n p) r j
   unfolding goes leave_test
-  goes_test k = ap₂ (λ (x z : Bool). by_kind kind x x z) (pinned_some (take n p) n size r j t long i (get_or p j 0) k (λ f. sym (get_or-take n p j 0 (omega arith)))) (hall_some (take n p) n size r j t long i k)
+  goes_test t i k = ap₂ (λ (x z : Bool). by_kind kind x x z) (pinned_some (take n p) n size r j t long i (get_or p j 0) k (λ f. sym (get_or-take n p j 0 (omega arith)))) (hall_some (take n p) n size r j t long i k)
 
-  pub leaver_goes : {x : Bool} → t < n → x ≡ true → x ≡ goes kind n size (get_or p j 0) r t j → LeaveFound (leave_test kind size (take n p) r j) r n (take n p) t
-  leaver_goes k h g = record { met = λ z. sym (g ∙ goes_test k) ∙ h; index = λ z. i; unmet = λ z. absurd (omega arith) }
+  pub leaver_at : {o f : Option ℕ} {x : Bool} (t : ℕ) → o ≡ position (eqb r) (take n p) → o ≡ Some t → x ≡ goes kind n size (get_or p j 0) r t j → f ≡ then_some x t → LeaveFound (leave_test kind size (take n p) r j) r n (take n p) f
+  leaver_at {x} t e s g d = rw d (found x (g ∙ goes_test t i.1 k))
+    where
+      i : (t < length (take n p)) × (t ≡ index_of r (take n p))
+      i = index_found r (take n p) e t s
 
-  pub leaver_stays : {x : Bool} → t < n → x ≡ false → x ≡ goes kind n size (get_or p j 0) r t j → LeaveFound (leave_test kind size (take n p) r j) r n (take n p) n
-  leaver_stays k h g = record { met = λ z. absurd (omega arith); index = λ z. absurd (omega arith); unmet = λ z. sym (g ∙ goes_test k) ∙ h }
+      k : t < n
+      k = omega (arith, i.0, long)
+
+      found : (x : Bool) → x ≡ leave_test kind size (take n p) r j → LeaveFound (leave_test kind size (take n p) r j) r n (take n p) (then_some x t)
+      found true y = (sym y, k, i.1)
+      found false y = sym y

@@ -37,17 +37,12 @@ fn can_go(kind: u8, n: usize, size: usize, x: u8, r: u8, t: usize, j: usize) -> 
     if is_pinned(kind) { free } else { room }
 }
 
-// "Leaving needs a reachable arrangement with the cart at from": where robot r, that is to leave at place j, stands in the list; n where it can't.
-pub fn leave_index(kind: u8, part: &[u8], n: usize, size: usize, r: u8, j: usize) -> usize
+// "Leaving needs a reachable arrangement with the cart at from": where robot r, that is to leave at place j, stands in the list, if it can leave.
+pub fn leave_index(kind: u8, part: &[u8], n: usize, size: usize, r: u8, j: usize) -> Option<usize>
     requires { (n ≤ size) × (size ≤ length part.now) × (j < size) }
     ensures { LeaveFound (leave_test kind size (take n part.now) r j) r n (take n part.now) result }
 {
-    let t = index_in(part, n, r);
+    let t = index_in(&part[..n], r)?;
     let x = part[j];
-    if t < n {
-        if can_go(kind, n, size, x, r, t, j) {
-            return t;
-        }
-    }
-    n
+    can_go(kind, n, size, x, r, t, j).then_some(t)
 }

@@ -3,10 +3,13 @@
 //     trips   robots sent from place to place
 #![tactic(auto)]
 
-ghost use Rattle.std.specs.Prelude.{◌≡◌, ◌≤◌, ◌<◌, min, length};
+ghost use Rattle.std.specs.Prelude.{◌≡◌, ℕ, ◌≤◌, ◌<◌, length};
+ghost use Rattle.std.specs.Fn.{FnReturnsAt};
+ghost use Rattle.spec.specs.Arrangement.{order};
 ghost use Rattle.spec.specs.Hall.{hall_leave, hall_enter, hall_end};
 ghost use Rattle.spec.specs.State.{across, arrangement_of};
 ghost use Rattle.motion.specs.World.{world, made_all};
+ghost use Rattle.hall.specs.Ends.{way_at};
 
 mod trips;
 
@@ -15,6 +18,39 @@ use lineup::line::line_up;
 use motion::State;
 use numbering::Robot;
 use trips::settle;
+
+// The robots of a hall make way at place j: `below` says of their line how many go below it, and m go onto it.
+#[tactic(auto, using(motion::specs::Across::arrangement_length, crate::specs::Ends::length_first))]
+fn make_way<F: Fn(&[u8]) -> usize>(
+    state: &mut State,
+    count: usize,
+    zone: &[u8],
+    below: F,
+    m: usize,
+    j: usize,
+    out: &mut [u8],
+) -> usize
+    requires long { length zone.now ≤ 128 }
+    requires place { j < 128 }
+    requires called { F.IsAlwaysCallable below }
+    ensures { (t : ℕ) × FnReturnsAt F.Fn below (order (arrangement_of state.old zone.now)) t × (world state.new result out.new ≡ made_all (world state.old count out.old) (across zone.now (way_at (arrangement_of state.old zone.now) t m j))) }
+{
+    let mut line = [0u8; 128];
+    let mut places = [0u8; 128];
+    let mut goals = [0u8; 128];
+    let n = line_up(state, zone, &mut line, &mut places);
+    let t = below(&line[..n]);
+    spread(&places[..n], t, m, j, &mut goals);
+    settle(
+        state,
+        count,
+        zone,
+        &line[..n],
+        &places[..n],
+        &goals[..n],
+        out,
+    )
+}
 
 // "Hall or stack, leaving at j": robot r goes to place j, those below and above it out of its way.
 pub fn leave(
@@ -28,15 +64,7 @@ pub fn leave(
     requires { (length zone.now ≤ 128) × (j < 128) }
     ensures { world state.new result out.new ≡ made_all (world state.old count out.old) (across zone.now (hall_leave (arrangement_of state.old zone.now) r.0 j)) }
 {
-    let mut line = [0u8; 128];
-    let mut places = [0u8; 128];
-    let mut goals = [0u8; 128];
-    let n = line_up(state, zone, &mut line, &mut places);
-    let t = index_of(&line, n, r.0);
-    spread(&places, n, t, t + 1, j, &mut goals);
-    settle(
-        state, count, zone, &line, &places, &goals, n, out,
-    )
+    make_way(state, count, zone, |line| index_of(line, r.0), 1, j, out)
 }
 
 // "Entering at j": the named robot and those lower go below place j, the rest above it.
@@ -51,25 +79,20 @@ pub fn enter(
     requires { (length zone.now ≤ 128) × (j < 128) }
     ensures { world state.new result out.new ≡ made_all (world state.old count out.old) (across zone.now (hall_enter (arrangement_of state.old zone.now) j behind)) }
 {
-    let mut line = [0u8; 128];
-    let mut places = [0u8; 128];
-    let mut goals = [0u8; 128];
-    let n = line_up(state, zone, &mut line, &mut places);
-    let t = lower_than(&line, n, behind);
-    spread(&places, n, t, t, j, &mut goals);
-    settle(
-        state, count, zone, &line, &places, &goals, n, out,
+    make_way(
+        state,
+        count,
+        zone,
+        |line| lower_than(line, behind),
+        0,
+        j,
+        out,
     )
 }
 
 // The robots go to their goals' places.
-pub fn end(
-    state: &mut State,
-    count: usize,
-    zone: &[u8],
-    goals: &State,
-    out: &mut [u8],
-) -> usize
+#[tactic(auto, using(motion::specs::Across::arrangement_length, crate::specs::Ends::length_first))]
+pub fn end(state: &mut State, count: usize, zone: &[u8], goals: &State, out: &mut [u8]) -> usize
     requires { length zone.now ≤ 128 }
     ensures { world state.new result out.new ≡ made_all (world state.old count out.old) (across zone.now (hall_end (arrangement_of state.old zone.now) (arrangement_of goals.now zone.now))) }
 {
@@ -79,14 +102,14 @@ pub fn end(
     let mut others = [0u8; 128];
     let mut targets = [0u8; 128];
     let m = line_up(goals, zone, &mut others, &mut targets);
+    let k = n.min(m);
     settle(
         state,
         count,
         zone,
-        &line,
-        &places,
-        &targets,
-        n.min(m),
+        &line[..k],
+        &places[..k],
+        &targets[..k],
         out,
     )
 }

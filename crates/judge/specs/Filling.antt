@@ -1,6 +1,6 @@
 -- The lists as a state has them: each zone's is the order of its arrangement.
 use Rattle.std.specs.Prelude.{◌≡◌, Bool, List, [], ◌++◌, ℕ, ◌+◌, ◌-◌, ◌≤◌, ◌<◌, length, get_or, set, take, drop, eqb}
-use Rattle.std.proofs.Common.{sym, ap, ap₂, ◌∙◌, append-nil, length-drop, drop_of_length-le, length-take-le}
+use Rattle.std.proofs.Common.{sym, ap, ◌∙◌, append-nil, length-drop, drop_of_length-le, length-take-le}
 use Rattle.std.proofs.Math.Bool.{true, false}
 use native.Mathlib.Omega.{arith}
 use Rattle.std.proofs.Math.Decide.{ℕ_discrete}
@@ -19,7 +19,6 @@ use Rattle.walking.specs.Alone.{goals_alone}
 use Rattle.motion.specs.Across.{arrangement_length}
 use Rattle.walking.specs.Tables.{vertices_in}
 use Rattle.lineup.specs.Line.{Lined}
-use Rattle.orders.specs.Orders.{end_test}
 use Rattle.orders.specs.Packed.{holds_order}
 use Rattle.walking.specs.Given.{Given, HasZone, part}
 use Rattle.rosters.specs.Lists.{Rewritten}
@@ -79,11 +78,6 @@ module _ (first size listed : List ℕ) (z : ℕ) (has : HasZone first size list
             change = changed_part cells a (get_or size z 0) (take n rs) rest _ (omega (arith, room, has.fits)) new wide;
             count = ap (set counts z) (sym lined_count);
           })
-
-  -- the goals by the zone's list
-  pub ended_zone : (kind count : ℕ) (cells : List ℕ) (b : Bool) → b ≡ end_test kind (get_or size z 0) (take count (take (length cells - get_or first z 0) (drop (get_or first z 0) cells))) (take n rs)
-      → b ≡ end_test kind (get_or size z 0) (take count (drop (get_or first z 0) cells)) robots
-  ended_zone kind count cells b e = e ∙ ap₂ {C = Bool} (λ (x y : List ℕ). end_test kind (get_or size z 0) (take count x) y) (rest_is (get_or first z 0) cells) lined_order
 
 -- ---- every zone's list
 

@@ -57,10 +57,8 @@ pub fn fill_lists<'a>(
 {
     let mut on = [255u8; 128];
     motion::robots_of(s, &mut on);
-    let mut z: usize = 0;
-    while z < zones {
+    for z in 0..zones {
         fill_zone(&on, first, size, listed, z, cells, counts);
-        z += 1;
     }
 }
 
@@ -88,7 +86,7 @@ fn ends_zone<'a>(
     exits::goals::can_end(kind[z], &cells[a..], count, m, &mut robots[..n])
 }
 
-// The lowest zone that can't be brought to its goals; the number of zones where there is none.
+// The lowest zone that can't be brought to its goals.
 pub fn off_zone<'a>(
     kind: &'a [u8; 64],
     first: &'a [u8; 64],
@@ -98,18 +96,16 @@ pub fn off_zone<'a>(
     cells: &[u8],
     counts: &[u8; 64],
     goals: State,
-) -> usize
+) -> Option<usize>
     requires { ((z : ℕ) → z < zones → HasZone first.now size.now listed.now z) × ((z : ℕ) → z < zones → HasList first.now size.now counts.now cells.now z) }
-    ensures { (m : Map) (n k : ℕ) (zone place : List ℕ) (rows : List (List ℕ)) → Given m n k kind.now first.now size.now listed.now zone place rows → zone_count m ≡ zones → (s : meaning.State) → Consistent m k s → Held m first.now counts.now cells.now s → off_zone result zones ≡ goals_from 0 m.zones s (state_of goals) }
+    ensures { (m : Map) (n k : ℕ) (zone place : List ℕ) (rows : List (List ℕ)) → Given m n k kind.now first.now size.now listed.now zone place rows → zone_count m ≡ zones → (s : meaning.State) → Consistent m k s → Held m first.now counts.now cells.now s → off_zone result ≡ goals_from 0 m.zones s (state_of goals) }
 {
     let mut targets = [255u8; 128];
     motion::robots_of(goals, &mut targets);
-    let mut z: usize = 0;
-    while z < zones {
+    for z in 0..zones {
         if !ends_zone(kind, first, size, listed, z, cells, counts, &targets) {
-            return z;
+            return Some(z);
         }
-        z += 1;
     }
-    z
+    None
 }

@@ -29,7 +29,7 @@ fn judge_in<'a>(
     k: usize,
     cells: &mut [u8],
     counts: &mut [u8; 64],
-) -> PlanFault
+) -> Result<(), PlanFault>
     requires len_in_bounds { (len ≤ length file.now / 512 * 504) × (2 ≤ len) }
     requires cells_len { (length cells.old ≡ length listed.now) × (length counts.old ≡ 64) × ((z : ℕ) → get_or counts.old z 0 ≡ 0) }
     requires placement { Placement n zones k kind.now first.now size.now listed.now zone.now place.now rows.now starts goals }
@@ -39,25 +39,16 @@ fn judge_in<'a>(
     let s = motion::standing(starts, k);
     let g = motion::standing(goals, k);
     fill_lists(s, first, size, listed, zones, cells, counts);
-    let w = walk(
+    let next = walk(
         file, len, count, kind, first, size, listed, zone, place, rows, n, k, cells, counts,
-    );
-    let fault = w.fault;
-    match fault {
-        PlanFault::None => {}
-        _ => {
-            return fault;
-        }
-    }
-    let next = w.next;
+    )?;
     if next != len {
-        return PlanFault::Short(count);
+        return Err(PlanFault::Short(count));
     }
-    let z = off_zone(kind, first, size, listed, zones, cells, counts, g);
-    if z < zones {
-        return PlanFault::Goal(z);
+    match off_zone(kind, first, size, listed, zones, cells, counts, g) {
+        Some(z) => Err(PlanFault::Goal(z)),
+        None => Ok(()),
     }
-    PlanFault::None
 }
 
 // Judges the plan whose payload, of `len` bytes, stands in a checked file.
@@ -76,13 +67,13 @@ pub fn judge_plan<'a>(
     starts: [u8; 64],
     goals: [u8; 64],
     k: usize,
-) -> PlanFault
+) -> Result<(), PlanFault>
     requires len_in_bounds { (len ≤ length file.now / 512 * 504) × (length listed.now ≡ 128) }
     requires placement { Placement n zones k kind.now first.now size.now listed.now zone.now place.now rows.now starts goals }
     ensures { (m : Map) (pl : Placing) → Given m n k kind.now first.now size.now listed.now zone.now place.now rows.now → zone_count m ≡ zones → Placed m.size pl → pl.starts ≡ take k starts → pl.goals ≡ take k goals → JudgedTo m pl (take len (payload file.now)) result }
 {
     if len < 2 {
-        return PlanFault::Short(0);
+        return Err(PlanFault::Short(0));
     }
     let mut cells = [0u8; 128];
     let mut counts = [0u8; 64];

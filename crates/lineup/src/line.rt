@@ -12,15 +12,11 @@ pub fn line_up(state: &State, zone: &[u8], line: &mut [u8], places: &mut [u8]) -
     ensures { Lined (arrangement_of state.now zone.now) result line.new places.new }
 {
     let mut n: usize = 0;
-    let mut k: usize = 0;
-    while k < zone.len() {
-        let v = zone[k];
-        let r = state.robot_on(Vertex(v));
-        let place = k as u8;
-        k += 1;
+    for (k, v) in zone.iter().enumerate() {
+        let r = state.robot_on(Vertex(*v));
         if r.0 != 255 {
             line[n] = r.0;
-            places[n] = place;
+            places[n] = k as u8;
             n += 1;
         }
     }

@@ -6,28 +6,23 @@ ghost use Rattle.writer.specs.Laid.{laid_all};
 ghost use Rattle.noting.specs.Follow.{seated, followed, step_from};
 
 use motion::State;
-use numbering::Vertex;
+use numbering::{Robot, Vertex};
 
 // Who stands on place i, a vertex v, once robot r has come in at place j.
-fn robot_after(state: &State, v: u8, i: usize, j: usize, r: u8) -> usize
-    ensures { (result ≡ seated state.now v i j r) × (result < 256) }
+fn robot_after(state: &State, v: Vertex, i: usize, j: usize, r: Robot) -> Robot
+    ensures { result.0 ≡ seated state.now v.0 i j r.0 }
 {
-    if i == j {
-        return r as usize;
-    }
-    state.robot_on(Vertex(v)).0 as usize
+    if i == j { r } else { state.robot_on(v) }
 }
 
 // Lays the follow list of robot r's step into place j of a zone from payload offset `off` on.
-fn write_list(state: &State, zone: &[u8], j: usize, r: u8, off: usize, out: &mut [u8])
+fn write_list(state: &State, zone: &[u8], j: usize, r: Robot, off: usize, out: &mut [u8])
     requires { (length zone.now ≤ 255) × (off < 4294967296) }
-    ensures { out.new ≡ laid_all out.old off (followed state.now zone.now j r) }
+    ensures { out.new ≡ laid_all out.old off (followed state.now zone.now j r.0) }
 {
-    let mut i: usize = 0;
-    while i < zone.len() {
-        let x = robot_after(state, zone[i], i, j, r);
-        writer::put_byte(out, off + i, x as u8);
-        i += 1;
+    for (i, v) in zone.iter().enumerate() {
+        let x = robot_after(state, Vertex(*v), i, j, r);
+        writer::put_byte(out, off + i, x.0);
     }
 }
 
@@ -50,7 +45,7 @@ pub fn write_step(
     writer::put_three(out, off, r, u, v);
     writer::put_byte(out, off + 3, behind);
     if filled {
-        write_list(state, zone, j, r, off + 4, out);
+        write_list(state, zone, j, Robot(r), off + 4, out);
         return off + 4 + zone.len();
     }
     off + 4

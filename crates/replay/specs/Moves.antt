@@ -1,6 +1,6 @@
 -- The moves of a move list's payload, by number, and how far a replay of them has come.
 use Rattle.std.specs.Prelude.{◌≡◌, refl, ℕ, zero, suc, ◌+◌, ◌-◌, ◌*◌, ◌≤◌, ◌<◌, Bool, true, false, List, [], ◌∷◌, ◌++◌, length, get_or, eqb, ltb, leb}
-use Rattle.std.proofs.Common.{sym, ap₂, ◌∙◌, add-one, append_assoc, append-nil, le-leb}
+use Rattle.std.proofs.Common.{sym, ◌∙◌, add-one, append_assoc, append-nil, le-leb}
 use Rattle.std.proofs.Math.Path.{ap}
 use native.Mathlib.Omega.{arith}
 use Rattle.std.proofs.lemmas.Bool.{lt-leb}
@@ -9,8 +9,6 @@ use Rattle.spec.specs.Layout.{Map, joined}
 use Rattle.spec.specs.Arrangement.{Move, mv}
 use Rattle.spec.specs.State.{State, robot_on, moved, moved_all}
 use Rattle.spec.specs.Run.{moves_from}
-use Rattle.motion.specs.declared.State as code
-use Rattle.motion.specs.States.{state_of}
 use Rattle.wire.specs.Payload.{place_of, ThreeAt}
 use Rattle.wire.specs.declared.Three.{Three}
 
@@ -49,11 +47,6 @@ three_move t = mv t.first t.second t.third
 
 pub three_move_lem : (f : List ℕ) (i : ℕ) (t : Three) → ThreeAt f (2 + i * 3) t → three_move t ≡ move_by (file_bytes f) i
 three_move_lem f i t h = let e = three_bytes f i t h in move_of (file_bytes f) i _ _ _ e.0 e.1 e.2
-
--- a state's tables, lent, are the state
-pub lent_tables : (s : code.State) (robots vertices : List ℕ) (t : State) → robots ≡ (state_of s).robots → vertices ≡ (state_of s).vertices → state_of s ≡ t
-    → tabled robots vertices ≡ t
-lent_tables s robots vertices t a b e = ap₂ tabled a b ∙ e
 
 -- the moves are as many as asked for
 pub moves_length : (byte : ℕ → ℕ) (i n : ℕ) → length (moves_by byte i n) ≡ n

@@ -1,75 +1,90 @@
 // Checking a move list against a map and a placing: each move in the state that the moves before it reach.
-ghost use Rattle.std.specs.Prelude.{◌≡◌, ℕ, ◌+◌, ◌*◌, ◌/◌, ◌<◌, ◌≤◌, List, length, take};
+ghost use Rattle.std.specs.Prelude.{◌≡◌, ℕ, ◌+◌, ◌*◌, ◌/◌, ◌<◌, ◌≤◌, length, take};
 ghost use Rattle.spec.specs.Layout.{Map, Placing};
 ghost use Rattle.spec.specs.Arrangement.{mv};
 ghost use Rattle.spec.specs.Run.{on_goals, checked_moves};
 ghost use Rattle.adjacency.specs.Rows.{Shows, bit_at};
 ghost use Rattle.wire.specs.Payload.{payload};
 ghost use Rattle.replay.specs.Moves.{move_tests};
-ghost use Rattle.replay.specs.Check.{fault_at, NumbersOf, off_goal, move_list_of, ReplayOf};
+ghost use Rattle.replay.specs.Check.{fault_at, list_fault_at, off_goal, move_list_of, ReplayOf};
 
+use crate::ListFault;
 use motion::State;
-use crate::{Fault, MoveList};
 use numbering::{Robot, Vertex};
 
-// Is there an edge between two vertices?
-fn edge_between(rows: &[[u64; 2]; 128], u: u8, v: u8) -> bool
-    requires { (u < 128) × (v < 128) }
-    ensures { result ≡ bit_at rows.now u v }
+// What is wrong with a move in a state: a robot or vertex that is not there, no edge, or a robot not at from or `to` taken.
+#[derive(Clone, Copy, Debug, PartialEq, Eq)]
+enum MoveFault {
+    Number,
+    Edge,
+    Standing,
+}
+
+impl MoveFault {
+    // The fault of a list whose move i has it.
+    fn of_move(self, i: usize) -> ListFault
+        ensures { result ≡ list_fault_at i self }
+    {
+        match self {
+            MoveFault::Number => ListFault::Number(i),
+            MoveFault::Edge => ListFault::Edge(i),
+            MoveFault::Standing => ListFault::Standing(i),
+        }
+    }
+}
+
+// Is there an edge between two vertices? `adjacency::joined`, which tests them again, makes a replay slower (6.5 ns a move, not 4.5).
+fn edge_between(rows: &[[u64; 2]; 128], u: Vertex, v: Vertex) -> bool
+    requires { (u.0 < 128) × (v.0 < 128) }
+    ensures { result ≡ bit_at rows.now u.0 v.0 }
 {
-    let a = u as usize;
-    let b = v as usize;
+    let a = u.0 as usize;
+    let b = v.0 as usize;
     let word = rows[a][b / 64];
     let place = (b % 64) as u32;
     (word >> place) % 2 == 1
 }
 
-// What is wrong with robot r's move from u to v, on a map of n vertices for k robots: 46, 47, 48.
-fn fault_of(state: &State, rows: &[[u64; 2]; 128], n: usize, k: usize, r: u8, u: u8, v: u8) -> Fault
-    requires { (n ≤ 128) × (length state.now.robots ≡ 128) }
-    ensures result_value { (m : Map) → m.size ≡ n → Shows rows.now m.edges → (vs : List ℕ) (i : ℕ) → fault_at i result ≡ move_tests m k (tabled robots.now vs) (mv r u v) i }
-    ensures numbers_of { NumbersOf result n k r u v }
+// Robot r's move between two vertices, tested on a map of n vertices for k robots: 46, 47, 48.
+fn fault_of(
+    state: &State,
+    rows: &[[u64; 2]; 128],
+    n: usize,
+    k: usize,
+    r: Robot,
+    from: Vertex,
+    to: Vertex,
+) -> Result<(), MoveFault>
+    requires { n ≤ 128 }
+    ensures { (m : Map) → m.size ≡ n → Shows rows.now m.edges → (i : ℕ) → fault_at i result ≡ move_tests m k state.now (mv r.0 from.0 to.0) i }
 {
-    if k <= r as usize {
-        return Fault::Number;
+    if r.0 as usize >= k || from.0 as usize >= n || to.0 as usize >= n {
+        return Err(MoveFault::Number);
     }
-    let a = u as usize;
-    if n <= a {
-        return Fault::Number;
+    if !edge_between(rows, from, to) {
+        return Err(MoveFault::Edge);
     }
-    let b = v as usize;
-    if n <= b {
-        return Fault::Number;
+    if state.robot_on(from) != r || state.robot_on(to) != Robot(255) {
+        return Err(MoveFault::Standing);
     }
-    if !edge_between(rows, u, v) {
-        return Fault::Edge;
-    }
-    if state[a] != r {
-        return Fault::Standing;
-    }
-    if state[b] != 255 {
-        return Fault::Standing;
-    }
-    Fault::Nothing
+    Ok(())
 }
 
-// The lowest robot that is off its goal; k where there is none.
-fn off_goal(vertices: &[u8], goals: [u8; 64], k: usize) -> usize
+// The lowest of k robots that is off its goal.
+fn off_goal(state: &State, goals: &[u8; 64], k: usize) -> Option<usize>
     requires { k ≤ 64 }
-    ensures { (result ≤ k) × (off_goal result k ≡ on_goals 0 vertices.now (take k goals)) }
+    ensures { off_goal result ≡ on_goals 0 state.now.vertices (take k goals.now) }
 {
-    let mut i: usize = 0;
-    while i < k {
-        let v = motion::vertex_in(vertices, Robot(i as u8));
-        if v != goals[i] {
-            return i;
+    for i in 0..k {
+        let v = state.vertex_of(Robot(i as u8));
+        if v.0 != goals[i] {
+            return Some(i);
         }
-        i += 1;
     }
-    i
+    None
 }
 
-// Replays `count` moves from the state in the lent tables, as long as they are legal.
+// Replays `count` moves from a state, as long as they are legal.
 fn replay_moves(
     file: &[u8],
     len: usize,
@@ -78,43 +93,27 @@ fn replay_moves(
     n: usize,
     k: usize,
     state: &mut State,
-) -> MoveList
-    requires len_in_bounds { (len ≤ length file.now / 512 * 504) × (count < 65536) }
-    requires n_bound { (n ≤ 128) × (k ≤ 64) × (length state.old.robots ≡ 128) × (length vertices.old ≡ 64) }
+) -> Result<(), ListFault>
+    requires { (len ≤ length file.now / 512 * 504) × (count < 65536) × (n ≤ 128) }
     ensures { (m : Map) → m.size ≡ n → Shows rows.now m.edges → ReplayOf m k (take len (payload file.now)) count state.old result state.new }
 {
-    let mut i: usize = 0;
     let mut at: usize = 8;
-    while i < count {
+    for i in 0..count {
         if len < 5 + i * 3 {
-            return MoveList::Short(i);
+            return Err(ListFault::Short(i));
         }
         let x = wire::three_from(file, at);
-        match fault_of(state, rows, n, k, x.first, x.second, x.third) {
-            Fault::Number => {
-                return MoveList::Number(i);
-            }
-            Fault::Edge => {
-                return MoveList::Edge(i);
-            }
-            Fault::Standing => {
-                return MoveList::Standing(i);
-            }
-            Fault::Nothing => {}
-        }
-        motion::shift(
-            state,
-            Robot(x.first),
-            Vertex(x.second),
-            Vertex(x.third),
-        );
+        let r = Robot(x.first);
+        let from = Vertex(x.second);
+        let to = Vertex(x.third);
+        fault_of(state, rows, n, k, r, from, to).map_err(|f| f.of_move(i))?;
+        state.shift(r, from, to);
         at = wire::place_after(at);
-        i += 1;
     }
-    MoveList::Legal(count)
+    Ok(())
 }
 
-// What the move list is whose payload, of `len` bytes, stands in a checked file.
+// How many moves the list has whose payload, of `len` bytes, stands in a checked file: legal, and to the goals.
 pub fn check_moves(
     file: &[u8],
     len: usize,
@@ -123,33 +122,23 @@ pub fn check_moves(
     starts: [u8; 64],
     goals: [u8; 64],
     k: usize,
-) -> MoveList
+) -> Result<usize, ListFault>
     requires { (len ≤ length file.now / 512 * 504) × (n ≤ 128) × (k ≤ 64) }
     ensures { (m : Map) (pl : Placing) → m.size ≡ n → Shows rows.now m.edges → pl.starts ≡ take k starts → pl.goals ≡ take k goals → move_list_of (take len (payload file.now)) result ≡ checked_moves m pl (take len (payload file.now)) }
 {
     if len < 2 {
-        return MoveList::Short(0);
+        return Err(ListFault::Short(0));
     }
     let count = wire::payload_word(file, 0);
-    let s = motion::standing(starts, k);
-    let mut state = [255u8; 128];
-    let mut vertices = [255u8; 64];
-    motion::robots_of(s, &mut state);
-    motion::vertices_of(s, &mut vertices);
-    let list = replay_moves(file, len, count, rows, n, k, &mut state, &mut vertices);
-    match list {
-        MoveList::Legal(_) => {}
-        _ => {
-            return list;
-        }
-    }
+    let mut state = State::standing(starts, k);
+    replay_moves(file, len, count, rows, n, k, &mut state)?;
     let whole = 2 + count * 3;
-    let r = off_goal(&vertices, goals, k);
+    let off = off_goal(&state, &goals, k);
     if len != whole {
-        return MoveList::Short(count);
+        return Err(ListFault::Short(count));
     }
-    if r < k {
-        return MoveList::Goal(r);
+    if let Some(r) = off {
+        return Err(ListFault::Goal(r));
     }
-    MoveList::Legal(count)
+    Ok(count)
 }

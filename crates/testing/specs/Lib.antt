@@ -1,5 +1,4 @@
 -- A step's tests on the lists of zones, and how the lists stand for a state.
-pub mod Test
 pub mod Fault
 pub mod Testing
 pub mod Held

@@ -1,11 +1,11 @@
 -- A step on the lists: its tests are those on the state, and the lists after it stand for the state after it.
-use Rattle.std.specs.Prelude.{◌≡◌, refl, Bool, List, ℕ, suc, ◌+◌, ◌≤◌, ◌<◌, length, get_or, take}
-use Rattle.std.proofs.Common.{sym, ap, ◌∙◌, arith, eq-eqb, ne_eqb}
+use Rattle.std.specs.Prelude.{◌≡◌, refl, Bool, List, ℕ, suc, ◌+◌, ◌≤◌, ◌<◌, ◌*◌, ◌/◌, length, get_or, take, drop, Result, MatchResult}
+use Rattle.std.proofs.Common.{sym, ap, ◌∙◌, arith, eq-eqb, ne_eqb, length-take-le, length-drop}
 use Rattle.std.proofs.Math.Path.{ap₂}
 use Rattle.std.proofs.Math.Bool.{true, false}
 use Rattle.std.proofs.Math.Dec.{eqb}
 use Rattle.std.proofs.Math.Decide.{ℕ_discrete}
-use Rattle.spec.specs.Outcome.{ok, index_of, ◌and◌}
+use Rattle.spec.specs.Outcome.{Outcome, ok, refuse, index_of, ◌and◌}
 use Rattle.spec.specs.Layout.{Map, zone_of, zone_at}
 use Rattle.spec.specs.Arrangement.{Arrangement, full}
 use Rattle.spec.specs.ZoneKind.{can_leave, can_enter}
@@ -15,20 +15,21 @@ use Rattle.theory.specs.Maps.Cells.{arrangement_length}
 use Rattle.theory.specs.Maps.Consistent.{Consistent}
 use Rattle.theory.specs.Zones.Crossing.{Proper, extra_of}
 use Rattle.theory.specs.Plans.Step.{proper}
-use Rattle.orders.specs.Orders.{Holds, leave_test, enter_test}
+use Rattle.orders.specs.Orders.{Holds, leave_test, enter_test, clique_enters}
 use Rattle.orders.specs.Tests.{full_is, last_is, leave_is, enter_is}
 use Rattle.walking.specs.Tables as zones
 use Rattle.walking.specs.Given.{Given, kind_at, vertices_at, zone_is, kind_is, vertices_is, place_is}
-use Rattle.wire.specs.Payload.{payload, FourAt}
+use Rattle.wire.specs.Payload.{payload, held_length, FourAt}
 use Rattle.wire.specs.declared.Four.{Four}
-use Rattle.walking.specs.Tests.{entry_tests, step_tests}
-use Rattle.testing.specs.declared.StepTest.{StepTest}
-use Rattle.testing.specs.declared.StepTest.TheVariants as step
-use Rattle.testing.specs.Test.{test_of}
-use Rattle.testing.specs.declared.Entry.{Entry}
-use Rattle.testing.specs.declared.Tested.{Tested}
-use Rattle.configurations.specs.Entering.{entry_on}
+use Rattle.walking.specs.Tests.{numbered, crosses, entry_tests, step_tests}
+use Rattle.testing.specs.declared.StepFault.{StepFault}
+use Rattle.testing.specs.declared.Step.{Step}
+use Rattle.testing.specs.declared.steps.Entry.{Entry}
+use Rattle.testing.specs.Fault.{refusal_of, refused}
+use Rattle.configurations.specs.Entering.{entry_on, clique_enters_lem}
 use Rattle.testing.specs.Held.{list_in, Held, size_is, part_fits, list_length}
+use Rattle.testing.specs.Testing.{entry_full, entry_short, entry_unmet, entry_met, tests_short, step_number, step_edge, step_leave, step_enter, numbers_below}
+use Rattle.walking.specs.Held.{held_part}
 
 -- the lists of an accepted map's zones in a state of its robots
 pub record Ready (n k : ℕ) (kind first size listed zone place : List ℕ) (rows : List (List ℕ)) (counts cells : List ℕ) : Type 0 where
@@ -182,57 +183,125 @@ extra_some kind size n e q z = go (ℕ_discrete kind 3) (ℕ_discrete (suc n) si
 
 -- ---- what the code finds
 
--- the entry of robot r at place j of a zone with the n robots l
-pub record EntryTested (f : List ℕ) (len o kind n : ℕ) (l : List ℕ) (size r j behind : ℕ) (q : Entry) : Type 0 where
-  pub tests : (b : Arrangement) → Proper b → Holds kind l b → length b ≡ size → (i : ℕ) → test_of i q.test ≡ entry_tests kind b (take len (payload f)) i o r j behind
-  pub index : (e : ℕ) → q.test ≡ step.Passed e → e ≡ 0 → (q.into ≤ n) × (q.into ≡ entry_on kind behind l)
+-- what is said of the entry of robot r at place j of a zone with the n robots l comes to its tests
+abbrev pub EntryIs : List ℕ → ℕ → ℕ → ℕ → List ℕ → ℕ → ℕ → ℕ → ℕ → (ℕ → Outcome ℕ) → Type 0
+EntryIs f len o kind l size r j behind y = (b : Arrangement) → Proper b → Holds kind l b → length b ≡ size → (i : ℕ) → y i ≡ entry_tests kind b (take len (payload f)) i o r j behind
 
--- the bytes b of the step at offset o, with a follow list of e bytes; its robot stands at index x of the list that it leaves, and comes in at index y of the other
-pub record Chosen (f : List ℕ) (o e : ℕ) (kind first zone counts cells : List ℕ) (b : Four) (x y : ℕ) : Type 0 where
-  pub read : FourAt f o b
-  pub stood : x ≡ index_of b.first (list_in first counts cells (get_or zone b.second 0))
-  pub comes : e ≡ 0 → (y ≤ get_or counts (get_or zone b.third 0) 0) × (y ≡ entry_on (kind_at kind zone b.third) b.fourth (list_in first counts cells (get_or zone b.third 0)))
+-- it passed
+pub record EntryPassed (f : List ℕ) (len o kind n : ℕ) (l : List ℕ) (size r j behind : ℕ) (x : Entry) : Type 0 where
+  pub tests : EntryIs f len o kind l size r j behind (λ i. ok x.list)
+  pub index : x.list ≡ 0 → (x.into ≤ n) × (x.into ≡ entry_on kind behind l)
 
--- the step at offset o
-pub record StepTested (f : List ℕ) (len o n k : ℕ) (kind first size listed zone place : List ℕ) (rows : List (List ℕ)) (counts cells : List ℕ) (t : Tested) : Type 0 where
-  pub tests : (m : Map) → Given m n k kind first size listed zone place rows → (s : State) → Consistent m k s → Held m first counts cells s
-      → (i : ℕ) → test_of i t.test ≡ step_tests m k (take len (payload f)) i o s
-  pub chosen : (e : ℕ) → t.test ≡ step.Passed e → Chosen f o e kind first zone counts cells t.bytes t.out t.into
+-- its tests
+abbrev pub EntryTested : List ℕ → ℕ → ℕ → ℕ → ℕ → List ℕ → ℕ → ℕ → ℕ → ℕ → Result Entry StepFault → Type 0
+EntryTested f len o kind n l size r j behind q = MatchResult q (EntryPassed f len o kind n l size r j behind) (λ t. EntryIs f len o kind l size r j behind (λ i. refused (refusal_of i t)))
 
--- 0 for a refusal; one more than the bytes of the follow list for a step that passed
-abbrev pub passed_by : StepTest → ℕ
-passed_by (step.Passed e) = suc e
-passed_by step.Short = 0
-passed_by step.Number = 0
-passed_by step.Edge = 0
-passed_by step.Leave = 0
-passed_by step.Enter = 0
+-- the step x at offset o: its robot stands at index x.out of the list that it leaves, and comes in at index x.into of the other
+pub record Chosen (f : List ℕ) (o : ℕ) (kind first zone counts cells : List ℕ) (x : Step) : Type 0 where
+  pub read : FourAt f o x.bytes
+  pub stood : x.out ≡ index_of x.bytes.first (list_in first counts cells (get_or zone x.bytes.second 0))
+  pub comes : x.list ≡ 0 → (x.into ≤ get_or counts (get_or zone x.bytes.third 0) 0) × (x.into ≡ entry_on (kind_at kind zone x.bytes.third) x.bytes.fourth (list_in first counts cells (get_or zone x.bytes.third 0)))
 
-module _ {f : List ℕ} {len o kind n : ℕ} {l : List ℕ} {size r j behind : ℕ} {q : Entry} where
-  -- an entry that is refused
-  pub entry_refused : {t : StepTest} → q.test ≡ t → passed_by t ≡ 0
-      → ((b : Arrangement) → Proper b → Holds kind l b → length b ≡ size → (i : ℕ) → test_of i t ≡ entry_tests kind b (take len (payload f)) i o r j behind)
-      → EntryTested f len o kind n l size r j behind q
-  entry_refused e z k = record {
-    tests = λ b p h x i. ap (test_of i) e ∙ k b p h x i;
-    index = λ x y w. absurd (omega (arith, sym z ∙ ap passed_by (sym e ∙ y)));
-  }
+-- what is said of the step at offset o comes to its tests
+abbrev pub StepIs : List ℕ → ℕ → ℕ → ℕ → ℕ → List ℕ → List ℕ → List ℕ → List ℕ → List ℕ → List ℕ → List (List ℕ) → List ℕ → List ℕ → (ℕ → Outcome ℕ) → Type 0
+StepIs f len o n k kind first size listed zone place rows counts cells y = (m : Map) → Given m n k kind first size listed zone place rows → (s : State) → Consistent m k s → Held m first counts cells s
+    → (i : ℕ) → y i ≡ step_tests m k (take len (payload f)) i o s
 
-  -- one that fills a clique
-  pub entry_filled : {e : ℕ} → q.test ≡ step.Passed e → (e ≡ 0 → ⊥)
-      → ((b : Arrangement) → Proper b → Holds kind l b → length b ≡ size → (i : ℕ) → ok e ≡ entry_tests kind b (take len (payload f)) i o r j behind)
-      → EntryTested f len o kind n l size r j behind q
-  entry_filled {e} d z k = record {
-    tests = λ b p h x i. ap (test_of i) d ∙ k b p h x i;
-    index = λ x y w. absurd (z (omega (arith, ap passed_by (sym d ∙ y))));
-  }
+-- it passed
+pub record StepPassed (f : List ℕ) (len o n k : ℕ) (kind first size listed zone place : List ℕ) (rows : List (List ℕ)) (counts cells : List ℕ) (x : Step) : Type 0 where
+  pub tests : StepIs f len o n k kind first size listed zone place rows counts cells (λ i. ok x.list)
+  pub chosen : Chosen f o kind first zone counts cells x
 
--- a step that is refused
-pub step_refused : {f : List ℕ} {len o n k : ℕ} {kind first size listed zone place : List ℕ} {rows : List (List ℕ)} {counts cells : List ℕ} {q : Tested} {t : StepTest}
-    → q.test ≡ t → passed_by t ≡ 0
-    → ((m : Map) → Given m n k kind first size listed zone place rows → (s : State) → Consistent m k s → Held m first counts cells s → (i : ℕ) → test_of i t ≡ step_tests m k (take len (payload f)) i o s)
-    → StepTested f len o n k kind first size listed zone place rows counts cells q
-step_refused e z g = record {
-  tests = λ m d s hc x i. ap (test_of i) e ∙ g m d s hc x i;
-  chosen = λ x y. absurd (omega (arith, sym z ∙ ap passed_by (sym e ∙ y)));
-}
+-- its tests
+abbrev pub StepTested : List ℕ → ℕ → ℕ → ℕ → ℕ → List ℕ → List ℕ → List ℕ → List ℕ → List ℕ → List ℕ → List (List ℕ) → List ℕ → List ℕ → Result Step StepFault → Type 0
+StepTested f len o n k kind first size listed zone place rows counts cells q = MatchResult q (StepPassed f len o n k kind first size listed zone place rows counts cells)
+    (λ t. StepIs f len o n k kind first size listed zone place rows counts cells (λ i. refused (refusal_of i t)))
+
+-- ---- the entry, by what the code finds
+
+module _ (f : List ℕ) (len o kind n : ℕ) (part : List ℕ) (size r j behind : ℕ) (most : len ≤ length f / 512 * 504) (within : o + 4 ≤ len) (long : n ≤ length part) where
+  -- the list is as long as it is counted
+  counts : length (take n part) ≡ n
+  counts = length-take-le n part long
+
+  -- the zone is full
+  pub entry_none : n ≡ size → EntryIs f len o kind (take n part) size r j behind (λ i. refuse 39 i)
+  entry_none q b p h l i = entry_full kind b _ i o r j behind (is_full kind _ b p h size n l counts q)
+
+  module _ (free : n ≡ size → ⊥) (e : ℕ) (x : e ≡ extra_on kind size n) where
+    -- the follow list is not all there
+    pub entry_cut : len < o + 4 + e → EntryIs f len o kind (take n part) size r j behind (λ i. refuse 35 i)
+    entry_cut q b p h l i = entry_short kind b _ i o r j behind (not_full kind _ b p h size n l counts free) e (x ∙ extra_is kind _ b p h size n l counts) (omega (arith, held_length f len most))
+
+    module _ (all : o + 4 + e ≤ len) (inside : j < size) where
+      -- the follow list is as long as it is to be
+      listed : length (held_part f len (o + 4) e) ≡ e
+      listed = length-take-le e (drop (o + 4) (take len (payload f))) (omega (arith, length-drop (o + 4) (take len (payload f)), held_length f len most))
+
+      -- what the test of behind and the follow list says, by the list
+      said : (b : Arrangement) → Proper b → Holds kind (take n part) b → length b ≡ size → (y : Bool) → enter_test kind size (take n part) r j behind (held_part f len (o + 4) e) ≡ y
+          → can_enter kind b r j behind (held_part f len (o + 4) e) ≡ y
+      said b p h l y q = sym (enters_by kind _ b p h size n l counts r j behind (held_part f len (o + 4) e) inside free (listed ∙ x)) ∙ q
+
+      -- it is unmet
+      pub entry_off : enter_test kind size (take n part) r j behind (held_part f len (o + 4) e) ≡ false → EntryIs f len o kind (take n part) size r j behind (λ i. refuse 39 i)
+      entry_off q b p h l i = entry_unmet kind b _ i o r j behind (not_full kind _ b p h size n l counts free) e (x ∙ extra_is kind _ b p h size n l counts) (omega (arith, held_length f len most)) (said b p h l false q)
+
+      -- it is met
+      pub entry_on_lem : enter_test kind size (take n part) r j behind (held_part f len (o + 4) e) ≡ true → EntryIs f len o kind (take n part) size r j behind (λ i. ok e)
+      entry_on_lem q b p h l i = entry_met kind b _ i o r j behind (not_full kind _ b p h size n l counts free) e (x ∙ extra_is kind _ b p h size n l counts) (omega (arith, held_length f len most)) (said b p h l true q)
+
+      -- the test where a clique is filled
+      pub entry_fills : (e ≡ 0 → ⊥) → (y : Bool) → y ≡ clique_enters size (take n part) r j behind (held_part f len (o + 4) size) → enter_test kind size (take n part) r j behind (held_part f len (o + 4) e) ≡ y
+      entry_fills z y q =
+          let w = extra_some kind size n e x z in
+          sym (clique_enters_lem kind w.0 size (take n part) r j behind (held_part f len (o + 4) e)) ∙ ap (λ (g : ℕ). clique_enters size (take n part) r j behind (held_part f len (o + 4) g)) w.2 ∙ sym q
+
+-- ---- the step, by what the code finds
+
+-- a vertex of the map is in a zone that has its list
+pub ready_fits : {n k : ℕ} {kind first size listed zone place : List ℕ} {rows : List (List ℕ)} {counts cells : List ℕ} → Ready n k kind first size listed zone place rows counts cells → (u : ℕ) → u < n → Fits first size zone place counts cells u
+ready_fits {n} {k} {kind} {first} {size} {listed} {zone} {place} {rows} {counts} {cells} q = fits q.map n k kind first size listed zone place rows q.given q.state q.consistent counts cells q.held q.room q.many
+
+-- the vertices of a step are the map's
+pub numbers_in : (n k r u v : ℕ) → numbered n k r u v ≡ true → (u < n) × (v < n)
+numbers_in n k r u v e = let x = numbers_below n k r u v e in (x.1, x.2)
+
+module _ (f : List ℕ) (len o n k : ℕ) (kind first size listed zone place : List ℕ) (rows : List (List ℕ)) (counts cells : List ℕ) (most : len ≤ length f / 512 * 504) where
+  -- the four bytes are not all there
+  pub step_cut : len < o + 4 → StepIs f len o n k kind first size listed zone place rows counts cells (λ i. refuse 35 i)
+  step_cut h m d s hc x i = tests_short m k (take len (payload f)) i o s (omega (arith, held_length f len most))
+
+  module _ (within : o + 4 ≤ len) (b : Four) (read : FourAt f o b) where
+    -- a number is too large
+    pub number_off : numbered n k b.first b.second b.third ≡ false → StepIs f len o n k kind first size listed zone place rows counts cells (λ i. refuse 36 i)
+    number_off e m d s hc x i = step_number m n k kind first size listed zone place rows d f len most i o within s b.first b.second b.third b.fourth read.first read.second read.third read.fourth (sym e)
+
+    module _ (numbers : numbered n k b.first b.second b.third ≡ true) where
+      -- no edge, or the same zone
+      pub edge_off : ((m : Map) → Given m n k kind first size listed zone place rows → crosses m b.second b.third ≡ false) → StepIs f len o n k kind first size listed zone place rows counts cells (λ i. refuse 37 i)
+      edge_off e m d s hc x i = step_edge m n k kind first size listed zone place rows d f len most i o within s b.first b.second b.third b.fourth read.first read.second read.third read.fourth (sym numbers) (sym (e m d))
+
+      module _ (ready : Ready n k kind first size listed zone place rows counts cells) where
+        module _ (edge : (m : Map) → Given m n k kind first size listed zone place rows → crosses m b.second b.third ≡ true) where
+          -- the test of leaving, by the list
+          abbrev pub leaves : Bool
+          leaves = leave_test (kind_at kind zone b.second) (get_or size (get_or zone b.second 0) 0) (list_in first counts cells (get_or zone b.second 0)) b.first (get_or place b.second 0)
+
+          -- what it says
+          left : (y : Bool) → leaves ≡ y → (m : Map) (d : Given m n k kind first size listed zone place rows) (s : State) (hc : Consistent m k s) (x : Held m first counts cells s)
+              → y ≡ can_leave (kind_at kind zone b.second) (arrangement_of s (vertices_at first size listed zone b.second)) b.first (get_or place b.second 0)
+          left y e m d s hc x = sym e ∙ leaves_by m n k kind first size listed zone place rows d s hc counts cells x ready.room ready.many b.second (numbers_below n k b.first b.second b.third numbers).1 b.first
+
+          -- the robot can't leave there
+          pub leave_off : leaves ≡ false → StepIs f len o n k kind first size listed zone place rows counts cells (λ i. refuse 38 i)
+          leave_off e m d s hc x i =
+              step_leave m n k kind first size listed zone place rows d f len most i o within s b.first b.second b.third b.fourth read.first read.second read.third read.fourth (sym numbers) (sym (edge m d)) (left false e m d s hc x)
+
+          -- what is left is the entry
+          pub entry_left : leaves ≡ true → (y : ℕ → Outcome ℕ)
+              → EntryIs f len o (kind_at kind zone b.third) (list_in first counts cells (get_or zone b.third 0)) (get_or size (get_or zone b.third 0) 0) b.first (get_or place b.third 0) b.fourth y
+              → StepIs f len o n k kind first size listed zone place rows counts cells y
+          entry_left e y w m d s hc x i =
+              step_enter m n k kind first size listed zone place rows d f len most i o within s b.first b.second b.third b.fourth read.first read.second read.third read.fourth (sym numbers) (sym (edge m d)) (y i) (left true e m d s hc x)
+              (w _ (zone_proper m n k kind first size listed zone place rows d s hc counts cells x ready.room ready.many b.third (numbers_below n k b.first b.second b.third numbers).2) (zone_holds m n k kind first size listed zone place rows d s hc counts cells x ready.room ready.many b.third (numbers_below n k b.first b.second b.third numbers).2) (zone_long m n k kind first size listed zone place rows d s hc counts cells x ready.room ready.many b.third (numbers_below n k b.first b.second b.third numbers).2) i)

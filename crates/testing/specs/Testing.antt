@@ -1,10 +1,10 @@
 -- The tests of a step, one by one: "In a step: four bytes, 36, 37, 38, full target, follow list present, 39."
-use Rattle.std.specs.Prelude.{◌≡◌, true, false, List, ℕ, ◌+◌, ◌*◌, ◌/◌, ◌≤◌, ◌<◌, length, get_or, take, drop}
+use Rattle.std.specs.Prelude.{◌≡◌, true, false, List, ℕ, ◌+◌, ◌*◌, ◌/◌, ◌≤◌, ◌<◌, length, get_or, take, drop, ltb, eqb}
 use Rattle.std.proofs.Math.Path.{sym}
 use Rattle.std.proofs.Common.{ap, ◌∙◌, arith}
 use Rattle.std.proofs.Math.Bool.{not}
 use Rattle.std.proofs.Math.Dec.{ltb→lt}
-use borrow.Author.Tests.{le-leb, lt-leb, le-ltb, lt-ltb, eq-eqb, ne_eqb}
+use borrow.Author.Tests.{le-leb, lt-leb, le-ltb, lt-ltb}
 use Rattle.spec.specs.Outcome.{Outcome, ok, refuse, ◌>>◌, check, ◌and◌}
 use Rattle.spec.specs.Layout.{Map, joined, zone_of}
 use Rattle.spec.specs.Arrangement.{Arrangement, full}
@@ -28,20 +28,15 @@ module _ (n k r u v : ℕ) where
   unfolding numbered ◌and◌
   numbered_robot h = rw (le-ltb r k h)
 
-  -- from is none of the vertices
-  pub numbered_from : r < k → n ≤ u → false ≡ numbered n k r u v
+  -- it is, and from is none of the vertices
+  pub numbered_from : r < k → ltb u n ≡ false → false ≡ numbered n k r u v
   unfolding numbered ◌and◌
-  numbered_from h l = rw (lt-ltb r k h, le-ltb u n l)
+  numbered_from h e = rw (lt-ltb r k h, e)
 
-  -- to is none of the vertices
-  pub numbered_to : r < k → u < n → n ≤ v → false ≡ numbered n k r u v
+  -- from is, and to decides
+  pub numbered_to : r < k → ltb u n ≡ true → ltb v n ≡ numbered n k r u v
   unfolding numbered ◌and◌
-  numbered_to h l x = rw (lt-ltb r k h, lt-ltb u n l, le-ltb v n x)
-
-  -- all are there
-  pub numbered_all : r < k → u < n → v < n → true ≡ numbered n k r u v
-  unfolding numbered ◌and◌
-  numbered_all h l x = rw (lt-ltb r k h, lt-ltb u n l, lt-ltb v n x)
+  numbered_to h e = rw (lt-ltb r k h, e)
 
   -- what that says
   pub numbers_below : numbered n k r u v ≡ true → (r < k) × (u < n) × (v < n)
@@ -63,24 +58,10 @@ module _ (m : Map) (n k : ℕ) (kind first size listed zone place : List ℕ) (r
   unfolding crosses ◌and◌
   crosses_none u v e = rw (joined_is u v, e)
 
-  module _ (u v : ℕ) (hu : u < n) (hv : v < n) (e : bit_at rows u v ≡ true) where
-    -- the zone of from
-    zone_u : get_or zone u 0 ≡ zone_of m u
-    zone_u = zone_is m n k kind first size listed zone place rows d u hu
-
-    -- the zone of to
-    zone_v : get_or zone v 0 ≡ zone_of m v
-    zone_v = zone_is m n k kind first size listed zone place rows d v hv
-
-    -- it stays in the zone
-    pub crosses_inside : get_or zone u 0 ≡ get_or zone v 0 → false ≡ crosses m u v
-    unfolding crosses ◌and◌ not
-    crosses_inside q = rw (joined_is u v, e, eq-eqb (zone_of m u) (zone_of m v) (sym zone_u ∙ q ∙ zone_v))
-
-    -- it leads to another
-    pub crosses_over : (get_or zone u 0 ≡ get_or zone v 0 → ⊥) → true ≡ crosses m u v
-    unfolding crosses ◌and◌ not
-    crosses_over q = rw (joined_is u v, e, ne_eqb (zone_of m u) (zone_of m v) (λ z. q (zone_u ∙ z ∙ sym zone_v)))
+  -- there is one, and the zones decide
+  pub crosses_zones : (u v : ℕ) → u < n → v < n → bit_at rows u v ≡ true → not (eqb (get_or zone u 0) (get_or zone v 0)) ≡ crosses m u v
+  unfolding crosses ◌and◌
+  crosses_zones u v hu hv e = rw (joined_is u v, e, ← zone_is m n k kind first size listed zone place rows d u hu, ← zone_is m n k kind first size listed zone place rows d v hv)
 
 -- ---- test by test
 
@@ -132,23 +113,23 @@ tests_short m k p i o s h = rw (lt-leb _ _ h)
 module _ (kind : ℕ) (b : Arrangement) (p : List ℕ) (i o r j behind : ℕ) where
   -- the target zone is full
   pub entry_full : full b ≡ true → refuse 39 i ≡ entry_tests kind b p i o r j behind
-  unfolding entry_tests check ◌>>◌ not
+  unfolding entry_tests check ◌>>◌
   entry_full e = rw e
 
   module _ (f : full b ≡ false) (e : ℕ) (x : e ≡ extra_of kind b) where
     -- the follow list is not all there
     pub entry_short : length p < o + 4 + e → refuse 35 i ≡ entry_tests kind b p i o r j behind
-    unfolding entry_tests check ◌>>◌ not
+    unfolding entry_tests check ◌>>◌
     entry_short h = rw (f, ← x, lt-leb _ _ h)
 
     -- behind or the follow list is unmet
     pub entry_unmet : o + 4 + e ≤ length p → can_enter kind b r j behind (take e (drop (o + 4) p)) ≡ false → refuse 39 i ≡ entry_tests kind b p i o r j behind
-    unfolding entry_tests check ◌>>◌ not
+    unfolding entry_tests check ◌>>◌
     entry_unmet h c = rw (f, ← x, le-leb _ _ h, c)
 
     -- all is met
     pub entry_met : o + 4 + e ≤ length p → can_enter kind b r j behind (take e (drop (o + 4) p)) ≡ true → ok e ≡ entry_tests kind b p i o r j behind
-    unfolding entry_tests check ◌>>◌ not
+    unfolding entry_tests check ◌>>◌
     entry_met h c = rw (f, ← x, le-leb _ _ h, c)
 
 -- ---- by the tables and by the bytes of the file

@@ -1,18 +1,20 @@
 // The tests of a step on configurations: each zone as the list of its robots.
 //
 //     tests   the tests that read no list
-//     step    all tests of a step
+//     steps   all tests of a step
 #![tactic(auto)]
 
-mod step;
+mod steps;
 mod tests;
 
-pub use step::test_step;
+ghost use Rattle.std.specs.Prelude.{◌≡◌};
+ghost use Rattle.testing.specs.Fault.{refusal_of};
 
-// What a step comes to: it passed, and its follow list has so many bytes; or which of document 01's refusals.
-#[derive(Clone, Copy)]
-pub enum StepTest {
-    Passed(usize),
+pub use steps::test_step;
+
+// Which of document 01's refusals of a step.
+#[derive(Clone, Copy, Debug, PartialEq, Eq)]
+pub enum StepFault {
     Short,
     Number,
     Edge,
@@ -20,10 +22,9 @@ pub enum StepTest {
     Enter,
 }
 
-// Why a plan is refused, with the step, the count of steps or the zone; None where it is cleared.
-#[derive(Clone, Copy)]
+// Why a plan is refused, with the step, the count of steps or the zone.
+#[derive(Clone, Copy, Debug, PartialEq, Eq)]
 pub enum PlanFault {
-    None,
     Short(usize),
     Number(usize),
     Edge(usize),
@@ -32,18 +33,27 @@ pub enum PlanFault {
     Goal(usize),
 }
 
-// What the entry of a step comes to, and the index at which its robot comes into the list where it fills no clique.
-#[derive(Clone, Copy)]
-pub struct Entry {
-    pub test: StepTest,
-    pub into: usize,
+impl StepFault {
+    // The refusal of a plan at step i.
+    pub fn at(self, i: usize) -> PlanFault
+        ensures { result ≡ refusal_of i self }
+    {
+        match self {
+            StepFault::Short => PlanFault::Short(i),
+            StepFault::Number => PlanFault::Number(i),
+            StepFault::Edge => PlanFault::Edge(i),
+            StepFault::Leave => PlanFault::Leave(i),
+            StepFault::Enter => PlanFault::Enter(i),
+        }
+    }
 }
 
-// What a step comes to; and of one that passed its bytes, and the indices at which its robot stands in the one list and comes into the other.
+// A step that passed its tests: its bytes, the indices at which its robot stands in the one list and comes into the other where it fills no clique, and
+// how many bytes its follow list has.
 #[derive(Clone, Copy)]
-pub struct Tested {
-    pub test: StepTest,
+pub struct Step {
     pub bytes: wire::Four,
     pub out: usize,
     pub into: usize,
+    pub list: usize,
 }

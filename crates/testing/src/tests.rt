@@ -10,16 +10,7 @@ use numbering::Vertex;
 pub fn are_numbered(n: usize, k: usize, r: u8, u: u8, v: u8) -> bool
     ensures { result ≡ numbered n k r u v }
 {
-    if k <= r as usize {
-        return false;
-    }
-    if n <= u as usize {
-        return false;
-    }
-    if n <= v as usize {
-        return false;
-    }
-    true
+    (r as usize) < k && (u as usize) < n && (v as usize) < n
 }
 
 // Does an edge lead from u to v, in another zone?
@@ -27,11 +18,5 @@ pub fn is_crossing(zone: &[u8; 128], rows: &[[u64; 2]; 128], u: u8, v: u8) -> bo
     requires { (u < 128) × (v < 128) }
     ensures { (m : Map) (n k : ℕ) (kind first size listed place : List ℕ) → Given m n k kind first size listed zone.now place rows.now → u < n → v < n → result ≡ crosses m u v }
 {
-    if !adjacency::joined(rows, Vertex(u), Vertex(v)) {
-        return false;
-    }
-    if zone[u as usize] == zone[v as usize] {
-        return false;
-    }
-    true
+    adjacency::joined(rows, Vertex(u), Vertex(v)) && zone[u as usize] != zone[v as usize]
 }

@@ -1,24 +1,21 @@
--- `deliver`: one law for each of 61, 60 and the file.
+-- `deliver`: the file, or zeros.
 use borrow.Author.Rules.{rules}
-use Prim.Native.Nat.{◌+◌, ◌*◌, ◌/◌}
+use native.Mathlib.Omega.{arith}
 use mathlib.Core.Path.{ap, sym, ◌∙◌}
-use Rattle.answers.specs.Delivered.{answered, delivered_over, delivered_short, delivered_whole}
+use Rattle.std.proofs.Common.{Ok, Err}
+use Rattle.answers.specs.Delivered.{answered, delivered_size, delivered_fault}
 use Rattle.answers.proofs.deliver.Goals as goal
 
-pub returns-then-over : goal.returns-then-over
-returns-then-over c =
+pub returns-in-Ok : goal.returns-in-Ok
+returns-in-Ok c =
     let a = c.args in
-    ap (answered (record { number = 61; value = 0 })) c.zero.ensures
-    ∙ sym (delivered_over a.kind a.limit a.len a.out.now (search rules))
+    let s = c.in-Ok.ensures in
+    record {
+      answer = ap (answered (Ok c.in-Ok.size)) c.seal.ensures ∙ sym (delivered_size a.kind a.limit a.len a.out.now c.in-Ok.size s);
+      upper_bound = omega (arith, s.0, s.1);
+    }
 
-pub returns-then-short : goal.returns-then-short
-returns-then-short c =
+pub returns-in-Err-clause-answer : goal.returns-in-Err-clause-answer
+returns-in-Err-clause-answer c =
     let a = c.args in
-    ap (answered (record { number = 60; value = 0 })) c.zero-then-short.ensures
-    ∙ sym (delivered_short a.kind a.limit a.len a.out.now (search rules) (search rules))
-
-pub returns : goal.returns
-returns c =
-    let a = c.args in
-    ap (answered (record { number = 0; value = (a.len + 503) / 504 * 512 })) c.seal.ensures
-    ∙ sym (delivered_whole a.kind a.limit a.len a.out.now (search rules) (search rules))
+    ap (answered (Err c.in-Err.fault)) (search rules) ∙ sym (delivered_fault a.kind a.limit a.len a.out.now c.in-Err.fault c.in-Err.ensures)

@@ -3,22 +3,17 @@ use Prim.Native.Nat.{◌/◌}
 use mathlib.Core.Path.{sym, ◌∙◌}
 use lib.ListN.{length}
 use Rattle.checking.specs.Checked.{size_odd, size_none, size_over, going_start, going_sum, going_head, going_fill, going_end, going_whole, good_le, going_more}
+use Rattle.checking.proofs.check_file.Goals.{then-file-ne0-via-then-file-ne0, then-file-ne0-via-else-file-ne0+then-count-lt1, then-file-ne0-via-else-file-ne0+else-count-lt1+then-count-limit}
 use Rattle.checking.proofs.check_file.Goals as goal
 
-pub returns-then-file-ne0 : goal.returns-then-file-ne0
-returns-then-file-ne0 c =
+pub returns-then-file-ne0-clause-by_index : goal.returns-then-file-ne0-clause-by_index
+returns-then-file-ne0-clause-by_index c base =
     let a = c.args in
-    record { by_index = λ base. size_odd a.file.now base a.kind a.limit c.if-file-ne0.true; held = tt }
-
-pub returns-then-count-lt1 : goal.returns-then-count-lt1
-returns-then-count-lt1 c =
-    let a = c.args in
-    record { by_index = λ base. size_none a.file.now base a.kind a.limit c.if-file-ne0.false c.if-count-lt1.true; held = tt }
-
-pub returns-then-count-limit : goal.returns-then-count-limit
-returns-then-count-limit c =
-    let a = c.args in
-    record { by_index = λ base. size_over a.file.now base a.kind a.limit c.if-file-ne0.false c.if-count-lt1.false c.if-count-limit.true; held = tt }
+    elim c.then-file-ne0.branch [
+      | then-file-ne0-via-then-file-ne0 w ↦ size_odd a.file.now base a.kind a.limit w.if-file-ne0.true
+      | then-file-ne0-via-else-file-ne0+then-count-lt1 w ↦ size_none a.file.now base a.kind a.limit w.if-file-ne0.false w.if-count-lt1.true
+      | then-file-ne0-via-else-file-ne0+else-count-lt1+then-count-limit w ↦ size_over a.file.now base a.kind a.limit w.if-file-ne0.false w.if-count-lt1.false w.if-count-limit.true
+    ]
 
 pub loop-i-init : goal.loop-i-init
 loop-i-init c =

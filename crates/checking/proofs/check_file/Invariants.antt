@@ -1,10 +1,6 @@
 -- `check_file`: at each turn, what is left to check gives what the whole file gives (`Going`); one law for each way out.
-use Prim.Native.Nat.{◌-◌}
 use Rattle.checking.specs.Checked.{Going}
 use Rattle.checking.proofs.check_file.Given as goal
 
 abbrev pub invariant-loop-i : goal.invariant-loop-i
 invariant-loop-i l = Going l.kind l.limit l.file l.count l.i l.len
-
-abbrev pub decreases-loop-i : goal.decreases-loop-i
-decreases-loop-i l = l.count - l.i

@@ -5,8 +5,11 @@ use native.Mathlib.Omega.{arith}
 use mathlib.Core.Path.{sym, ◌∙◌}
 use Rattle.checking.proofs.fill_ok.Goals as goal
 
-pub zeros-requires : goal.zeros-requires
-zeros-requires c = let h = filled_le _ _ (sym c.fill_allowed.ensures ∙ c.if-fill_allowed.true) in omega (arith, h, c.word_at-n.ensures.0)
+pub slice_bounds-zeros-count : goal.slice_bounds-zeros-count
+slice_bounds-zeros-count c = let h = filled_le _ _ (sym c.fill_allowed.ensures ∙ c.if-fill_allowed.true) in omega (arith, h, c.word_at-n.ensures.0)
+
+pub slice_bounds-zeros-start : goal.slice_bounds-zeros-start
+slice_bounds-zeros-start c = let h = filled_le _ _ (sym c.fill_allowed.ensures ∙ c.if-fill_allowed.true) in omega (arith, h, c.word_at-n.ensures.0)
 
 pub returns-then-fill_allowed : goal.returns-then-fill_allowed
 unfolding ◌and◌
@@ -18,9 +21,9 @@ returns-then-fill_allowed c =
     ∙ sym (fill_is a.file.now a.at a.last
     ∙ rw (← n.ensures.0, sym c.fill_allowed.ensures ∙ c.if-fill_allowed.true, block_rest a.file.now a.at n.result h))
 
-pub returns : goal.returns
+pub returns-else-fill_allowed : goal.returns-else-fill_allowed
 unfolding ◌and◌
-returns c =
+returns-else-fill_allowed c =
     let a = c.args in
-    sym (fill_is a.file.now a.at a.last
+    c.if-fill_allowed.false ∙ sym (fill_is a.file.now a.at a.last
     ∙ rw (← c.word_at-n.ensures.0, sym c.fill_allowed.ensures ∙ c.if-fill_allowed.false))

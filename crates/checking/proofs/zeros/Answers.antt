@@ -1,20 +1,10 @@
-use Rattle.checking.specs.Block.{zeros_first, zeros_more, zeros_none}
+-- `zeros`: no bit is set in any byte.
 use borrow.Author.Rules.{rules}
-use native.Mathlib.Omega.{arith}
-use mathlib.Core.Path.{sym, ◌∙◌}
+use Rattle.std.proofs.Common.{ap, ◌≡◌, ◌∙◌, eqb, fold, bit_or}
+use Rattle.checking.specs.Block.{or_all}
 use Rattle.checking.proofs.zeros.Goals as goal
-
-pub loop-o-init : goal.loop-o-init
-loop-o-init c = (search rules, search rules, zeros_first _)
-
-pub loop-o-preserved : goal.loop-o-preserved
-loop-o-preserved c =
-    let a = c.args in
-    let o = c.loop-o in
-    (search rules, search rules, sym (zeros_more a.file.now o.o a.end o.any (omega arith) (omega arith)) ∙ o.invariant.2)
 
 pub returns : goal.returns
 returns c =
-    let a = c.args in
-    let o = c.loop-o in
-    sym (zeros_none a.file.now o.o a.end o.any (omega arith)) ∙ o.invariant.2
+    let q : c.fold.result ≡ fold bit_or 0 c.args.bytes.now = search rules in
+    ap (λ n. eqb n 0) q ∙ or_all c.args.bytes.now

@@ -1,6 +1,4 @@
-use borrow.Author.Rules.{rules}
 use native.Mathlib.Omega.{arith}
-use Prim.Native.Nat.{◌≤◌}
 use mathlib.Core.Path.{ap, ◌∙◌}
 use mathlib.Core.List.{List}
 use Rattle.spec.specs.Arrangement.{Move}
@@ -9,16 +7,6 @@ use Rattle.motion.specs.World.{world, made_all}
 use Rattle.motion.specs.Across.{arrangement_length}
 use Rattle.hall.specs.Ends.{end_is}
 use Rattle.hall.proofs.end.Goals as goal
-
-pub settle-requires : goal.settle-requires
-settle-requires c =
-    let a = c.args in
-    let l = c.line_up-n in
-    let m = c.line_up-m in
-    let e = c.min.ensures in
-    let x : l.result ≤ 128 = omega (arith, l.ensures.short, arrangement_length a.state.now a.zone.now, c.requires) in
-    let y : m.result ≤ 128 = omega (arith, m.ensures.short, arrangement_length a.goals.now a.zone.now, c.requires) in
-    (search rules, search rules, search rules)
 
 pub returns : goal.returns
 returns c =
@@ -31,4 +19,4 @@ returns c =
     (end_is (arrangement_of a.state.now z) (arrangement_of a.goals.now z) l.result m.result _ _ _ _ _
     (omega (arith, l.ensures.short, arrangement_length a.state.now z, c.requires))
     (omega (arith, m.ensures.short, arrangement_length a.goals.now z, c.requires))
-    c.min.ensures l.ensures m.ensures)
+    c.min-k.ensures l.ensures m.ensures)

@@ -6,7 +6,7 @@ loop-i-init c = following_start _ _ _ _ _ _
 
 pub loop-i-preserved : goal.loop-i-preserved
 loop-i-preserved c =
-    following_next _ _ _ _ _ _ c.loop-i.i _ c.loop-i.out _ c.loop-i.invariant c.loop-i-test.true c.robot_after-x.ensures.0 c.put_byte.ensures
+    following_next _ _ _ _ _ _ c.loop-i.i _ c.loop-i.out _ c.loop-i.invariant c.loop-i-test.true c.robot_after-x.ensures c.put_byte.ensures
 
 pub returns : goal.returns
 returns c = following_end _ _ _ _ _ _ c.loop-i.i c.loop-i.out c.loop-i.invariant c.loop-i-test.false

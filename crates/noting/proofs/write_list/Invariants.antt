@@ -1,10 +1,5 @@
-use Prim.Native.Nat.{◌-◌}
-use lib.ListN.{length}
 use Rattle.noting.specs.Follow.{Following}
 use Rattle.noting.proofs.write_list.Given as goal
 
 abbrev pub invariant-loop-i : goal.invariant-loop-i
-invariant-loop-i l = Following l.state l.zone l.j l.r l.off l.initial.out l.i l.out
-
-abbrev pub decreases-loop-i : goal.decreases-loop-i
-decreases-loop-i l = length l.zone - l.i
+invariant-loop-i l = Following l.state l.zone l.j l.r.0 l.off l.initial.out l.i l.out

@@ -1,4 +1,4 @@
-use Prim.Native.Nat.{◌<◌}
+use Prim.Native.Nat.{◌-◌, ◌<◌}
 use mathlib.Core.Path.{◌≡◌}
 use lib.ListN.{length}
 use Rattle.spec.specs.Ring.{pushes}
@@ -6,10 +6,10 @@ use Rattle.spec.specs.State.{arrangement_of, across}
 use Rattle.motion.specs.World.{world, made_all}
 use Rattle.circle.proofs.pushing.push_times.Given as goal
 
-abbrev pub invariant-loop-left : goal.invariant-loop-left
-invariant-loop-left l =
-    (length l.state.robots ≡ length l.initial.state.robots) × (l.at < length l.zone)
-    × (made_all (world l.state l.count l.out) (across l.zone (pushes l.left (arrangement_of l.state l.zone) l.at)) ≡ made_all (world l.initial.state l.count-2 l.initial.out) (across l.zone (pushes l.n (arrangement_of l.initial.state l.zone) l.p)))
-
-abbrev pub decreases-loop-left : goal.decreases-loop-left
-decreases-loop-left l = l.left
+abbrev pub invariant-loop : goal.invariant-loop
+invariant-loop l =
+    record {
+      size : length l.state.robots ≡ length l.initial.state.robots;
+      inside : l.at < length l.zone;
+      left : made_all (world l.state l.count l.out) (across l.zone (pushes (l.n - l.counter) (arrangement_of l.state l.zone) l.at)) ≡ made_all (world l.initial.state l.count-2 l.initial.out) (across l.zone (pushes l.n (arrangement_of l.initial.state l.zone) l.p));
+    }

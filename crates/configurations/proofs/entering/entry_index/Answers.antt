@@ -1,21 +1,18 @@
-use native.Mathlib.Omega.{arith}
-use lib.ListN.{take}
-use lib.Seq.{length-take-le}
-use Rattle.theory.specs.Basics.Searches.{index_le}
-use Rattle.configurations.specs.Entering.{entry_first, entry_after}
+use Rattle.std.proofs.Common.{arith}
+use Rattle.rosters.specs.Finding.{index_found, index_missing}
+use Rattle.configurations.specs.Entering.{entry_first, entry_after, entry_none}
 use Rattle.configurations.proofs.entering.entry_index.Goals as goal
 
 pub returns-then-behind-eq255 : goal.returns-then-behind-eq255
-returns-then-behind-eq255 c =
-    let a = c.args in
-    entry_first a.behind (take a.n a.part.now) c.if-behind-eq255.true
+returns-then-behind-eq255 c = (omega arith, entry_first c.args.behind c.args.list.now c.if-behind-eq255.true)
 
-pub overflow_add-result : goal.overflow_add-result
-overflow_add-result c =
+pub returns-in_err-t : goal.returns-in_err-t
+returns-in_err-t c =
     let a = c.args in
-    omega (arith, c.index_in.ensures, index_le a.behind (take a.n a.part.now), length-take-le a.n a.part.now c.requires)
+    rw c.from_residual.ensures (entry_none a.behind a.list.now c.if-behind-eq255.false (index_missing a.behind a.list.now c.index_in.ensures c.in_err-t.was))
 
 pub returns : goal.returns
 returns c =
     let a = c.args in
-    entry_after a.behind _ (take a.n a.part.now) c.if-behind-eq255.false c.index_in.ensures
+    let f = index_found a.behind a.list.now c.index_in.ensures _ c.in_ok-t.was in
+    (omega (arith, f.0), entry_after a.behind _ a.list.now c.if-behind-eq255.false f.1)

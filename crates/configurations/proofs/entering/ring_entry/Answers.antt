@@ -1,45 +1,22 @@
-use borrow.Author.Rules.{rules}
-use native.Mathlib.Omega.{arith}
-use mathlib.Core.Path.{◌≡◌}
-use Prim.Native.Nat.{◌≤◌}
-use lib.ListN.{length, take}
-use lib.Seq.{length-take-le}
-use Rattle.theory.specs.Basics.Searches.{index_le}
-use Rattle.configurations.specs.Entering.{ring_first, ring_none, ring_named}
+use Rattle.std.proofs.Common.{◌≡◌, sym, ◌∙◌, length, true, rules, tests}
+use Rattle.spec.specs.Outcome.{member}
+use Rattle.rosters.specs.Finding.{member_is}
+use Rattle.configurations.specs.Entering.{ring_none, ring_found}
+use Rattle.configurations.proofs.entering.ring_entry.Goals.{else-behind-via-then-behind+then-not-is_empty+else-not-contains, else-behind-via-then-behind+else-not-is_empty, else-behind-via-else-behind}
 use Rattle.configurations.proofs.entering.ring_entry.Goals as goal
 
-pub returns-then-n-ne0 : goal.returns-then-n-ne0
-returns-then-n-ne0 c =
-    let a = c.args in
-    let l = take a.n a.part.now in
-    let q : length l ≡ a.n = length-take-le a.n a.part.now (omega (arith, c.requires)) in
-    ring_none l a.n q a.behind _ c.index_in-t.ensures c.if-t-n.true c.if-n-ne0.true
-
-pub returns-else-n-ne0 : goal.returns-else-n-ne0
-returns-else-n-ne0 c =
-    let a = c.args in
-    let l = take a.n a.part.now in
-    let q : length l ≡ a.n = length-take-le a.n a.part.now (omega (arith, c.requires)) in
-    ring_first l a.n q a.behind _ c.index_in-t.ensures c.if-behind-eq255.true (λ z. omega arith) (omega (arith, c.if-t-n.true))
-
-pub returns-else-t-n : goal.returns-else-t-n
-returns-else-t-n c =
-    let a = c.args in
-    let l = take a.n a.part.now in
-    let q : length l ≡ a.n = length-take-le a.n a.part.now (omega (arith, c.requires)) in
-    ring_first l a.n q a.behind _ c.index_in-t.ensures c.if-behind-eq255.true (λ z. absurd (c.if-t-n.false z)) (omega (arith, c.index_in-t.ensures, index_le a.behind l, q))
-
-pub overflow_add-result-2 : goal.overflow_add-result-2
-overflow_add-result-2 c =
-    let a = c.args in
-    let l = take a.n a.part.now in
-    let q : length l ≡ a.n = length-take-le a.n a.part.now (omega (arith, c.requires)) in
-    let h : c.index_in-t.result ≤ a.n = omega (arith, c.index_in-t.ensures, index_le a.behind l, q) in
-    search rules
+pub returns-then-not-contains : goal.returns-then-not-contains
+returns-then-not-contains c =
+    let l = c.args.list.now in
+    let z : length l ≡ 0 → ⊥ = search (rules, tests) in
+    ring_none l c.args.behind z (sym (member_is l c.args.behind) ∙ sym c.contains.ensures.value ∙ c.if-not-contains.true)
 
 pub returns : goal.returns
 returns c =
-    let a = c.args in
-    let l = take a.n a.part.now in
-    let q : length l ≡ a.n = length-take-le a.n a.part.now (omega (arith, c.requires)) in
-    ring_named l a.n q a.behind _ c.index_in-t.ensures c.if-behind-eq255.false (omega (arith, c.index_in-t.ensures, index_le a.behind l, q))
+    let l = c.args.list.now in
+    let m : c.args.behind ≡ 255 → (length l ≡ 0 → ⊥) → member c.args.behind l ≡ true = elim c.else-behind.branch [
+      | else-behind-via-then-behind+then-not-is_empty+else-not-contains w ↦ λ e z. sym (member_is l c.args.behind) ∙ sym w.contains.ensures.value ∙ w.if-not-contains.false
+      | else-behind-via-then-behind+else-not-is_empty w ↦ λ e z. absurd (z (search (rules, tests)))
+      | else-behind-via-else-behind w ↦ λ e z. absurd (w.if-behind.false e)
+    ] in
+    ring_found l c.args.behind _ m c.entry_index.ensures

@@ -1,21 +1,13 @@
-use native.Mathlib.Omega.{arith}
-use Rattle.exits.specs.Leaving.{leaver_none, leaver_goes, leaver_stays}
+use Rattle.std.proofs.Common.{arith}
+use Rattle.exits.specs.Leaving.{leaver_none, leaver_at}
 use Rattle.exits.proofs.leaving.leave_index.Goals as goal
 
-pub returns-then-can_go : goal.returns-then-can_go
-returns-then-can_go c =
-    let s = c in
-    let a = s.args in
-    leaver_goes a.kind a.part.now a.n a.size a.r a.j _ (omega (arith, s.requires)) s.requires.2 c.index_in-t.ensures c.if-t-n.true c.if-can_go.true c.can_go.ensures
+pub returns-in_err-t : goal.returns-in_err-t
+returns-in_err-t c =
+    let a = c.args in
+    leaver_none a.kind a.part.now a.n a.size a.r a.j (omega (arith, c.requires)) c.requires.2 c.index_in.ensures c.in_err-t.was c.from_residual.ensures
 
-pub returns-else-can_go : goal.returns-else-can_go
-returns-else-can_go c =
-    let s = c in
-    let a = s.args in
-    leaver_stays a.kind a.part.now a.n a.size a.r a.j _ (omega (arith, s.requires)) s.requires.2 c.index_in-t.ensures c.if-t-n.true c.if-can_go.false c.can_go.ensures
-
-pub returns-else-t-n : goal.returns-else-t-n
-returns-else-t-n c =
-    let s = c in
-    let a = s.args in
-    leaver_none a.kind a.part.now a.n a.size a.r a.j _ (omega (arith, s.requires)) s.requires.2 c.index_in-t.ensures c.if-t-n.false
+pub returns : goal.returns
+returns c =
+    let a = c.args in
+    leaver_at a.kind a.part.now a.n a.size a.r a.j (omega (arith, c.requires)) c.requires.2 _ c.index_in.ensures c.in_ok-t.was c.can_go.ensures c.then_some.ensures

@@ -1,11 +1,10 @@
 use borrow.Author.Rules.{rules}
-use native.Mathlib.Omega.{arith}
 use mathlib.Core.Path.{sym}
 use Prim.Native.Nat.{◌≤◌}
-use lib.ListN.{length, get_or}
+use lib.ListN.{length}
 use lib.Seq.{length-take-le}
 use Rattle.motion.specs.Tables.{on_vertices}
-use Rattle.judge.specs.Filling.{lined_small, ended_zone}
+use Rattle.judge.specs.Filling.{lined_small}
 use Rattle.judge.proofs.ending.ends_zone.Goals as goal
 
 pub slice_bounds-robots-end : goal.slice_bounds-robots-end
@@ -22,18 +21,3 @@ slice_bounds-can_end-end-2 c =
     let x : l.result ≤ 128 = lined_small a.first.now a.size.now a.listed.now a.z c.requires.0 (on_vertices a.goals.now) l.result l.new.line l.new.places l.ensures in
     let y : l.result ≤ length l.new.line = search rules in
     sym (length-take-le l.result l.new.line y)
-
-pub can_end-requires : goal.can_end-requires
-can_end-requires c =
-    let a = c.args in
-    let l = c.line_up-n in
-    let x : l.result ≤ 128 = lined_small a.first.now a.size.now a.listed.now a.z c.requires.0 (on_vertices a.goals.now) l.result l.new.line l.new.places l.ensures in
-    let y : l.result ≤ length l.new.line = search rules in
-    (search rules, search rules, omega (arith, x, length-take-le l.result l.new.line y))
-
-pub returns : goal.returns
-returns c =
-    let a = c.args in
-    let l = c.line_up-n in
-    let x : l.result ≤ 128 = lined_small a.first.now a.size.now a.listed.now a.z c.requires.0 (on_vertices a.goals.now) l.result l.new.line l.new.places l.ensures in
-    ended_zone a.first.now a.size.now a.listed.now a.z c.requires.0 (on_vertices a.goals.now) l.result l.new.line l.new.places l.ensures (get_or a.kind.now a.z 0) (get_or a.counts.now a.z 0) a.cells.now _ c.can_end.ensures

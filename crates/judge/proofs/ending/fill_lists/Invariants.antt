@@ -1,7 +1,7 @@
 use Rattle.motion.specs.Tables.{on_vertices}
 use mathlib.Core.List.{List}
 use mathlib.Core.Path.{◌≡◌}
-use Prim.Native.Nat.{ℕ, ◌-◌, ◌≤◌}
+use Prim.Native.Nat.{ℕ}
 use lib.ListN.{length}
 use Rattle.spec.specs.Layout.{Map}
 use Rattle.spec.specs.Terms.{zone_count}
@@ -11,8 +11,5 @@ use Rattle.judge.proofs.ending.fill_lists.Given as goal
 
 abbrev pub invariant-loop-z : goal.invariant-loop-z
 invariant-loop-z l =
-    (l.z ≤ l.zones) × (length l.cells ≡ length l.listed) × (length l.counts ≡ 64)
+    (length l.cells ≡ length l.listed) × (length l.counts ≡ 64)
     × ((m : Map) (n k : ℕ) (kind zone place : List ℕ) (rows : List (List ℕ)) → Given m n k kind l.first l.size l.listed zone place rows → zone_count m ≡ l.zones → Filled m l.first l.counts l.cells (on_vertices l.on) l.z)
-
-abbrev pub decreases-loop-z : goal.decreases-loop-z
-decreases-loop-z l = l.zones - l.z

@@ -1,18 +1,11 @@
 use borrow.Author.Rules.{rules}
 use mathlib.Core.Path.{sym}
-use Prim.Native.Nat.{◌+◌, ◌-◌, ◌≤◌}
-use lib.ListN.{length, get_or, take, drop}
+use Prim.Native.Nat.{◌≤◌}
+use lib.ListN.{length}
 use lib.Seq.{length-take-le}
 use Rattle.motion.specs.Tables.{on_vertices}
-use Rattle.walking.specs.Given.{part}
 use Rattle.judge.specs.Filling.{lined_small, lined_fits, filled_zone}
 use Rattle.judge.proofs.ending.fill_zone.Goals as goal
-
-pub line_up-n-requires : goal.line_up-n-requires
-line_up-n-requires c =
-    let a = c.args in
-    let x : length (take (get_or a.first.now a.z 0 + get_or a.size.now a.z 0 - get_or a.first.now a.z 0) (drop (get_or a.first.now a.z 0) a.listed.now)) ≤ 128 = rw (part (get_or a.first.now a.z 0) (get_or a.size.now a.z 0) a.listed.now) c.requires.0.long in
-    (x, search rules, search rules)
 
 pub slice_bounds-robots-end : goal.slice_bounds-robots-end
 slice_bounds-robots-end c =

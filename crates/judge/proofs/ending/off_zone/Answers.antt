@@ -1,20 +1,10 @@
 use Rattle.judge.specs.Filling.{goals_by}
-use borrow.Author.Rules.{rules}
-use mathlib.Core.Path.{refl, sym, ap, ◌∙◌}
+use mathlib.Core.Path.{sym, ◌∙◌}
 use Prim.Native.Nat.{◌<◌}
 use Rattle.spec.specs.Terms.{zone_count}
-use Rattle.judge.specs.Endings.{off_zone, goals_next, goals_off, goals_all}
+use Rattle.judge.specs.Endings.{goals_next, goals_off, goals_all}
 use Rattle.judge.specs.Judging.{ends_by}
 use Rattle.judge.proofs.ending.off_zone.Goals as goal
-
-pub loop-z-init : goal.loop-z-init
-loop-z-init c = (search rules, λ m n k zone place rows d e s h x. refl)
-
-pub ends_zone-requires : goal.ends_zone-requires
-ends_zone-requires c =
-    let p = c.requires in
-    let z = c.loop-z.z in
-    (p.0 z c.loop-z-test.true, p.1 z c.loop-z-test.true)
 
 pub returns-then-not-ends_zone : goal.returns-then-not-ends_zone
 returns-then-not-ends_zone c =
@@ -22,24 +12,21 @@ returns-then-not-ends_zone c =
     let a = c.args in
     let l = c.loop-z in
     let t : l.z < zone_count m = rw e c.loop-z-test.true in
-    sym (l.invariant.1 m n k zone place rows d e s h x ∙ goals_off m s _ l.z t
-    (sym (ends_by m n k a.kind.now a.first.now a.size.now a.listed.now zone place rows d s _ a.counts.now a.cells.now h x l.z t) ∙ sym c.ends_zone.ensures ∙ c.if-not-ends_zone.true)
-    ∙ ap (off_zone l.z) e) ∙ goals_by m.zones s a.goals _ c.robots_of.ensures
+    sym (l.invariant m n k zone place rows d e s h x ∙ goals_off m s _ l.z t
+    (sym (ends_by m n k a.kind.now a.first.now a.size.now a.listed.now zone place rows d s _ a.counts.now a.cells.now h x l.z t) ∙ sym c.ends_zone.ensures ∙ c.if-not-ends_zone.true)) ∙ goals_by m.zones s a.goals _ c.robots_of.ensures
 
 pub loop-z-preserved : goal.loop-z-preserved
-loop-z-preserved c = (
-  search rules,
-  λ m n k zone place rows d e s h x.
-      let a = c.args in
-      let l = c.loop-z in
-      let t : l.z < zone_count m = rw e c.loop-z-test.true in
-      l.invariant.1 m n k zone place rows d e s h x ∙ goals_next m s _ l.z t
-      (sym (ends_by m n k a.kind.now a.first.now a.size.now a.listed.now zone place rows d s _ a.counts.now a.cells.now h x l.z t) ∙ sym c.ends_zone.ensures ∙ c.if-not-ends_zone.false),
-)
+loop-z-preserved c =
+    λ m n k zone place rows d e s h x.
+    let a = c.args in
+    let l = c.loop-z in
+    let t : l.z < zone_count m = rw e c.loop-z-test.true in
+    l.invariant m n k zone place rows d e s h x ∙ goals_next m s _ l.z t
+    (sym (ends_by m n k a.kind.now a.first.now a.size.now a.listed.now zone place rows d s _ a.counts.now a.cells.now h x l.z t) ∙ sym c.ends_zone.ensures ∙ c.if-not-ends_zone.false)
 
 pub returns : goal.returns
 returns c =
     λ m n k zone place rows d e s h x.
     let a = c.args in
     let l = c.loop-z in
-    sym (l.invariant.1 m n k zone place rows d e s h x ∙ goals_all m s _ l.z (rw e c.loop-z-test.false) ∙ ap (off_zone l.z) e) ∙ goals_by m.zones s a.goals _ c.robots_of.ensures
+    sym (l.invariant m n k zone place rows d e s h x ∙ goals_all m s _ l.z (rw e c.loop-z-test.false)) ∙ goals_by m.zones s a.goals _ c.robots_of.ensures

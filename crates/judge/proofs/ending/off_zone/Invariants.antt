@@ -1,7 +1,7 @@
 use Rattle.motion.specs.Tables.{on_vertices}
 use mathlib.Core.List.{List}
 use mathlib.Core.Path.{◌≡◌}
-use Prim.Native.Nat.{ℕ, ◌-◌, ◌≤◌}
+use Prim.Native.Nat.{ℕ}
 use lib.ListN.{drop}
 use Rattle.spec.specs.Layout.{Map}
 use Rattle.spec.specs.State as meaning
@@ -14,8 +14,5 @@ use Rattle.judge.proofs.ending.off_zone.Given as goal
 
 abbrev pub invariant-loop-z : goal.invariant-loop-z
 invariant-loop-z l =
-    (l.z ≤ l.zones) × ((m : Map) (n k : ℕ) (zone place : List ℕ) (rows : List (List ℕ)) → Given m n k l.kind l.first l.size l.listed zone place rows → zone_count m ≡ l.zones
-    → (s : meaning.State) → Consistent m k s → Held m l.first l.counts l.cells s → goals_from 0 m.zones s (on_vertices l.targets) ≡ goals_from l.z (drop l.z m.zones) s (on_vertices l.targets))
-
-abbrev pub decreases-loop-z : goal.decreases-loop-z
-decreases-loop-z l = l.zones - l.z
+    (m : Map) (n k : ℕ) (zone place : List ℕ) (rows : List (List ℕ)) → Given m n k l.kind l.first l.size l.listed zone place rows → zone_count m ≡ l.zones
+    → (s : meaning.State) → Consistent m k s → Held m l.first l.counts l.cells s → goals_from 0 m.zones s (on_vertices l.targets) ≡ goals_from l.z (drop l.z m.zones) s (on_vertices l.targets)

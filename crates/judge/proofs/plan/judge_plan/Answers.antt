@@ -5,7 +5,7 @@ use Rattle.judge.proofs.plan.judge_plan.Goals as goal
 
 pub returns-then-len-lt2 : goal.returns-then-len-lt2
 returns-then-len-lt2 c =
-    λ m pl d e pd es eg. let a = c.args in judged_none m pl a.file.now a.len c.requires.len_in_bounds.0 c.if-len-lt2.true
+    λ m pl d e pd es eg. let a = c.args in judged_none a.file.now a.len c.requires.len_in_bounds.0 c.if-len-lt2.true
 
 pub judge_in-requires : goal.judge_in-requires
 judge_in-requires c =

@@ -20,9 +20,6 @@ fill_clique-requires c =
     let x = extra_some a.kind a.size a.n a.e c.requires.4 c.if-e-eq0.false in
     (c.requires.1, omega (arith, x.2, c.requires.5))
 
-pub returns-then-e-eq0 : goal.returns-then-e-eq0
-returns-then-e-eq0 c = λ behind h. c.enter_at.ensures behind (held_part c.args.file.now (c.args.from + c.args.e) c.args.from c.args.e) (h c.if-e-eq0.true)
-
 pub returns-else-e-eq0 : goal.returns-else-e-eq0
 returns-else-e-eq0 c =
     λ behind h.

@@ -1,28 +1,21 @@
-use borrow.Author.Rules.{rules}
 use mathlib.Core.Path.{ap, ◌∙◌}
 use Rattle.walking.specs.Given.{kind_at}
 use Rattle.configurations.specs.Entering.{entry_on}
-use Rattle.judge.specs.Making.{marching_room, marching_out, marching_in, marching_still, marching_held, marching_many, marching_long}
+use Rattle.judge.specs.Making.{marching_out, marching_in, marching_still, marching_held, marching_many, marching_long}
 use Rattle.judge.proofs.walk.make_step.Goals as goal
 
 pub take_out-requires : goal.take_out-requires
 take_out-requires c =
     let a = c.args in
     let b = c.requires.chosen.read in
-    marching_out a.file.now a.o a.e a.kind.now a.first.now a.size.now a.listed.now a.zone.now a.place.now a.counts.now a.cells.now c.requires.marching _ _ _ _ b.first b.second b.third b.fourth _ c.requires.chosen.stood
+    marching_out a.file.now a.o a.x.list a.kind.now a.first.now a.size.now a.listed.now a.zone.now a.place.now a.counts.now a.cells.now c.requires.marching _ _ _ _ b.first b.second b.third b.fourth _ c.requires.chosen.stood
 
-pub overflow_add-o : goal.overflow_add-o
-overflow_add-o c =
-    let a = c.args in
-    let x = marching_room a.file.now a.o a.e a.kind.now a.first.now a.size.now a.listed.now a.zone.now a.place.now a.counts.now a.cells.now c.requires.marching in
-    search rules
-
-pub put_in-requires : goal.put_in-requires
-put_in-requires c =
+pub put_in-requires-clause-puts_in : goal.put_in-requires-clause-puts_in
+put_in-requires-clause-puts_in c =
     let a = c.args in
     let b = c.requires.chosen.read in
     let l = rw c.requires.chosen.stood at c.take_out.ensures in
-    record { e_in_bounds = marching_room a.file.now a.o a.e a.kind.now a.first.now a.size.now a.listed.now a.zone.now a.place.now a.counts.now a.cells.now c.requires.marching; puts_in = marching_in a.file.now a.o a.e a.kind.now a.first.now a.size.now a.listed.now a.zone.now a.place.now a.counts.now a.cells.now c.requires.marching _ _ _ _ b.first b.second b.third b.fourth _ _ l _ (λ z. (c.requires.chosen.comes z).0) }
+    marching_in a.file.now a.o a.x.list a.kind.now a.first.now a.size.now a.listed.now a.zone.now a.place.now a.counts.now a.cells.now c.requires.marching _ _ _ _ b.first b.second b.third b.fourth _ _ l _ (λ z. (c.requires.chosen.comes z).0)
 
 pub returns : goal.returns
 returns c =
@@ -30,10 +23,10 @@ returns c =
     let a = c.args in
     let b = c.requires.chosen.read in
     let l = rw c.requires.chosen.stood at c.take_out.ensures in
-    let s = marching_still a.file.now a.o a.e a.kind.now a.first.now a.size.now a.listed.now a.zone.now a.place.now a.counts.now a.cells.now x _ _ _ _ b.first b.second b.third b.fourth _ _ l in
-    let p = c.put_in.ensures a.bytes.fourth (λ z. (c.requires.chosen.comes z).1 ∙ ap (entry_on (kind_at a.kind.now a.zone.now a.bytes.third) a.bytes.fourth) s) in
+    let s = marching_still a.file.now a.o a.x.list a.kind.now a.first.now a.size.now a.listed.now a.zone.now a.place.now a.counts.now a.cells.now x _ _ _ _ b.first b.second b.third b.fourth _ _ l in
+    let p = c.put_in.ensures a.x.bytes.fourth (λ z. (c.requires.chosen.comes z).1 ∙ ap (entry_on (kind_at a.kind.now a.zone.now a.x.bytes.third) a.x.bytes.fourth) s) in
     record {
-      held = marching_held a.file.now a.o a.e a.kind.now a.first.now a.size.now a.listed.now a.zone.now a.place.now a.counts.now a.cells.now x _ _ _ _ b.first b.second b.third b.fourth _ _ l _ _ p;
-      many = marching_many a.file.now a.o a.e a.kind.now a.first.now a.size.now a.listed.now a.zone.now a.place.now a.counts.now a.cells.now x _ _ _ _ b.first b.second b.third b.fourth _ _ l _ _ p;
-      room = marching_long a.file.now a.o a.e a.kind.now a.first.now a.size.now a.listed.now a.zone.now a.place.now a.counts.now a.cells.now x _ _ _ _ b.first b.second b.third b.fourth _ _ l _ _ p;
+      held = marching_held a.file.now a.o a.x.list a.kind.now a.first.now a.size.now a.listed.now a.zone.now a.place.now a.counts.now a.cells.now x _ _ _ _ b.first b.second b.third b.fourth _ _ l _ _ p;
+      many = marching_many a.file.now a.o a.x.list a.kind.now a.first.now a.size.now a.listed.now a.zone.now a.place.now a.counts.now a.cells.now x _ _ _ _ b.first b.second b.third b.fourth _ _ l _ _ p;
+      room = marching_long a.file.now a.o a.x.list a.kind.now a.first.now a.size.now a.listed.now a.zone.now a.place.now a.counts.now a.cells.now x _ _ _ _ b.first b.second b.third b.fourth _ _ l _ _ p;
     }

@@ -12,15 +12,9 @@ use Rattle.walking.specs.Given.{kind_at}
 use Rattle.walking.specs.Held.{held_part}
 use Rattle.configurations.specs.Entering.{entry_on}
 use Rattle.testing.specs.Held.{changed_rest}
-use Rattle.rosters.specs.Lists.{rest_is, rest_length}
+use Rattle.rosters.specs.Lists.{rest_is}
 use Rattle.testing.specs.Steps.{extra_all}
 use Rattle.judge.proofs.walk.put_in.Goals as goal
-
-pub enter_in-requires : goal.enter_in-requires
-enter_in-requires c =
-    let a = c.args in
-    let z : ℕ = get_or a.zone.now a.v 0 in
-    (c.requires.puts_in.free, omega (arith, rest_length (get_or a.first.now z 0) a.cells.now, c.requires.puts_in.at.here.room), c.requires.puts_in.at.here.small, c.requires.puts_in.at.inside, c.requires.puts_in.extra, c.requires.e_in_bounds, c.requires.puts_in.index)
 
 pub returns : goal.returns
 returns c =

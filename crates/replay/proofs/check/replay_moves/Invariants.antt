@@ -1,6 +1,6 @@
 use mathlib.Core.Path.{◌≡◌}
-use Prim.Native.Nat.{◌≤◌, ◌+◌, ◌-◌, ◌*◌}
-use lib.ListN.{length, take}
+use Prim.Native.Nat.{◌+◌, ◌*◌}
+use lib.ListN.{take}
 use Rattle.spec.specs.Layout.{Map}
 use Rattle.adjacency.specs.Rows.{Shows}
 use Rattle.wire.specs.Payload.{payload, place_of}
@@ -9,8 +9,5 @@ use Rattle.replay.proofs.check.replay_moves.Given as goal
 
 abbrev pub invariant-loop-i : goal.invariant-loop-i
 invariant-loop-i l =
-    (l.i ≤ l.count) × (length l.state.robots ≡ 128) × (length l.vertices ≡ 64) × (l.at ≡ place_of (2 + l.i * 3))
-    × ((m : Map) → m.size ≡ l.n → Shows l.rows m.edges → Replayed m l.k (take l.len (payload l.file)) l.count l.initial.state l.i l.state)
-
-abbrev pub decreases-loop-i : goal.decreases-loop-i
-decreases-loop-i l = l.count - l.i
+    (l.at ≡ place_of (2 + l.i-counter * 3))
+    × ((m : Map) → m.size ≡ l.n → Shows l.rows m.edges → Replayed m l.k (take l.len (payload l.file)) l.count l.initial.state l.i-counter l.state)

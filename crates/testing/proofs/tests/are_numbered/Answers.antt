@@ -1,14 +1,20 @@
-use Rattle.testing.specs.Testing.{numbered_robot, numbered_from, numbered_to, numbered_all}
+use borrow.Author.Tests.{le-ltb}
+use mathlib.Core.Path.{sym, ◌∙◌}
+use Rattle.testing.specs.Testing.{numbered_robot, numbered_from, numbered_to}
+use Rattle.testing.proofs.tests.are_numbered.Goals.{then-r-k, else-r-k}
+use Rattle.std.proofs.lemmas.Bool.{false≢true}
 use Rattle.testing.proofs.tests.are_numbered.Goals as goal
 
-pub returns-then-k-r : goal.returns-then-k-r
-returns-then-k-r c = numbered_robot _ _ _ _ _ c.if-k-r.true
+pub returns-then-u-n : goal.returns-then-u-n
+returns-then-u-n c =
+    elim c.if-r-k.branch [
+      | then-r-k w ↦ numbered_to _ _ _ _ _ w.if-r-k.true (sym w.value-is ∙ c.if-u-n.true)
+      | else-r-k w ↦ absurd (false≢true (sym (le-ltb _ _ w.if-r-k.false) ∙ sym w.value-is ∙ c.if-u-n.true))
+    ]
 
-pub returns-then-n-u : goal.returns-then-n-u
-returns-then-n-u c = numbered_from _ _ _ _ _ c.if-k-r.false c.if-n-u.true
-
-pub returns-then-n-v : goal.returns-then-n-v
-returns-then-n-v c = numbered_to _ _ _ _ _ c.if-k-r.false c.if-n-u.false c.if-n-v.true
-
-pub returns : goal.returns
-returns c = numbered_all _ _ _ _ _ c.if-k-r.false c.if-n-u.false c.if-n-v.false
+pub returns-else-u-n : goal.returns-else-u-n
+returns-else-u-n c =
+    elim c.if-r-k.branch [
+      | then-r-k w ↦ c.if-u-n.false ∙ numbered_from _ _ _ _ _ w.if-r-k.true (sym w.value-is ∙ c.if-u-n.false)
+      | else-r-k w ↦ c.if-u-n.false ∙ numbered_robot _ _ _ _ _ w.if-r-k.false
+    ]

@@ -1,12 +1,9 @@
 use mathlib.Core.Path.{sym, ◌∙◌}
-use Rattle.testing.specs.Testing.{crosses_none, crosses_inside, crosses_over}
+use Rattle.testing.specs.Testing.{crosses_none, crosses_zones}
 use Rattle.testing.proofs.tests.is_crossing.Goals as goal
 
-pub returns-then-not-joined : goal.returns-then-not-joined
-returns-then-not-joined c = λ m n k kind first size listed place d hu hv. crosses_none m n k kind first size listed _ place _ d _ _ (sym c.joined.ensures ∙ c.if-not-joined.true)
+pub returns-then-joined : goal.returns-then-joined
+returns-then-joined c = λ m n k kind first size listed place d hu hv. crosses_zones m n k kind first size listed _ place _ d _ _ hu hv (sym c.joined.ensures ∙ c.if-joined.true)
 
-pub returns-then-zone-u : goal.returns-then-zone-u
-returns-then-zone-u c = λ m n k kind first size listed place d hu hv. crosses_inside m n k kind first size listed _ place _ d _ _ hu hv (sym c.joined.ensures ∙ c.if-not-joined.false) c.if-zone-u.true
-
-pub returns : goal.returns
-returns c = λ m n k kind first size listed place d hu hv. crosses_over m n k kind first size listed _ place _ d _ _ hu hv (sym c.joined.ensures ∙ c.if-not-joined.false) c.if-zone-u.false
+pub returns-else-joined : goal.returns-else-joined
+returns-else-joined c = λ m n k kind first size listed place d hu hv. c.if-joined.false ∙ crosses_none m n k kind first size listed _ place _ d _ _ (sym c.joined.ensures ∙ c.if-joined.false)

@@ -1,0 +1,22 @@
+use Rattle.std.proofs.Common.{refl, ap, ◌∙◌, List, arith}
+use Rattle.std.proofs.lemmas.Fn.{says_at}
+use Rattle.spec.specs.Arrangement.{Move}
+use Rattle.spec.specs.State.{across, arrangement_of}
+use Rattle.motion.specs.World.{world, made_all}
+use Rattle.motion.specs.Across.{arrangement_length}
+use Rattle.hall.specs.Ends.{way_is}
+use Rattle.hall.proofs.make_way.Goals as goal
+
+pub returns : goal.returns
+returns g c =
+    let a = c.args in
+    let z = a.zone.now in
+    let l = c.line_up-n in
+    let s = says_at g.F.Fn c.below-t.ensures refl in (
+      c.below-t.result,
+      record { shown = s.shown; shows = s.shows ∙ l.ensures.robots; says = s.says },
+      c.settle.ensures
+          ∙ ap (λ (ms : List Move). made_all (world a.state.now a.count a.out.now) (across z ms))
+          (way_is (arrangement_of a.state.now z) l.result c.below-t.result a.m a.j _ _ _
+          (omega (arith, l.ensures.short, arrangement_length a.state.now z, c.requires.long)) l.ensures c.spread.ensures),
+    )
