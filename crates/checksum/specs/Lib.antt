@@ -1,2 +1,0 @@
--- The Internet checksum: the laws behind the functions' proofs.
-pub mod Sum
