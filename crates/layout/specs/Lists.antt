@@ -15,7 +15,7 @@ pub record MapLists : Type 0 where
 -- zone z is one of the tables', and its vertices stand in the listing
 pub record HasPart (t : MapLists) (z : ℕ) : Type 0 where
   pub below : z < 64
-  pub inside : get_or t.first z 0 + get_or t.size z 0 ≤ 128
+  pub inside : get_or t.first z 0 + get_or t.size z 0 ≤ length t.listed
 
 -- the vertices of zone z
 abbrev pub part_of : MapLists → ℕ → List ℕ

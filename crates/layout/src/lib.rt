@@ -31,7 +31,9 @@ impl Model for MapTables {
 
     ghost Value = { MapLists };
 
-    ghost use Rattle.layout.specs.View.{view_of};
+    ghost use Rattle.layout.specs.View.{view_of, Whole};
 
     ghost view = { view_of };
+
+    ghost invariant = { Whole };
 }

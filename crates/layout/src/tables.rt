@@ -30,7 +30,8 @@ impl MapTables {
 
     // The zone of a vertex; 255 where there is none.
     pub fn zone_of(&self, v: Vertex) -> Zone
-        ensures { result.0 ≡ get_or self.now.zone v.0 255 }
+        ensures zone { result.0 ≡ get_or self.now.zone v.0 255 }
+        ensures below { v.0 < 128 → result.0 ≡ get_or self.now.zone v.0 0 }
     {
         Zone(entry(&self.zone, v.0 as usize, 255))
     }

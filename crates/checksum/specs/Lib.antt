@@ -1,0 +1,2 @@
+-- The Internet checksum: the laws behind the functions' proofs.
+pub mod Sum

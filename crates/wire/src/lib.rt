@@ -1,0 +1,28 @@
+// Payloads of block files (document 01, "Block files"), read where they stand.
+//
+//     payload    the bytes of a payload, read from the file
+#![tactic(auto)]
+
+pub mod payload;
+
+pub use payload::{
+    byte_at, next_place, payload_ahead, payload_byte, payload_four, payload_part, payload_word,
+    place_after, place_of, three_from,
+};
+
+// Three bytes of a payload that stand one after the other, as those of a move. Contracts name each of them, so it is no array.
+#[derive(Clone, Copy, Debug, PartialEq, Eq)]
+pub struct Three {
+    pub first: u8,
+    pub second: u8,
+    pub third: u8,
+}
+
+// Four bytes of a payload that stand one after the other, as those of a step.
+#[derive(Clone, Copy, Debug, Default, PartialEq, Eq)]
+pub struct Four {
+    pub first: u8,
+    pub second: u8,
+    pub third: u8,
+    pub fourth: u8,
+}
