@@ -83,7 +83,8 @@ impl MapTables {
         requires { HasPart self.now z.0 }
         ensures { result.now ≡ part_of self.now z.0 }
     {
-        let a = self.first_of(z);
-        &self.listed[a..a + self.size_of(z)]
+        let i = z.0 as usize;
+        let a = self.first[i] as usize;
+        &self.listed[a..a + self.size[i] as usize]
     }
 }
