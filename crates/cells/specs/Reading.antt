@@ -1,14 +1,17 @@
 -- What is read of a zone's arrangement from the state, place by place.
-use Rattle.std.specs.Prelude.{◌≡◌, refl, ◌≢◌, Bool, true, false, ℕ, zero, suc, ◌+◌, ◌<◌, ◌≤◌, List, [], ◌∷◌, length, get_or, drop, eqb, ltb}
+use Rattle.std.specs.Prelude.{◌≡◌, refl, ◌≢◌, Bool, true, false, not, Option, ℕ, zero, suc, ◌+◌, ◌<◌, ◌≤◌, List, [], ◌∷◌, length, get_or, drop, eqb, ltb}
+use Rattle.std.specs.List.{AllWithin, HoldsAt, list_all}
+use Rattle.std.specs.Option.{MatchOption, unwrap_or}
+use Rattle.std.proofs.lemmas.Iterator.{index_from_first}
 use Rattle.std.proofs.Math.Path.{ap, sym}
-use Rattle.std.proofs.Common.{◌∙◌, arith, drop_of_length-le, eq-eqb, ne_eqb, lt-ltb, le-ltb}
+use Rattle.std.proofs.Common.{◌∙◌, add-one, arith, drop_of_length-le, eq-eqb, ne_eqb, lt-ltb, le-ltb}
 use Rattle.std.proofs.Math.Decide.{ℕ_discrete}
 use Rattle.std.proofs.Math.ListN.{get_or-eq_default}
 use Rattle.spec.specs.Outcome.{member}
 use Rattle.spec.specs.Arrangement.{Arrangement, seek, cell, order, full}
 use Rattle.spec.specs.State.{State, robot_on, cell_of, arrangement_of}
 use Rattle.theory.specs.Basics.Tests.{Eqb, same, other, eqb?, Ltb, less, more, ltb?}
-use Rattle.theory.specs.Maps.Cells.{cell_of_lem, cell_none, cell_robot, cell_empty}
+use Rattle.theory.specs.Maps.Cells.{cell_of_lem, cell_none, cell_robot, cell_injective}
 use Rattle.theory.specs.Zones.Arrangements.{order_short}
 use Rattle.cells.specs.Cells.{seek_same, seek_other}
 use Rattle.motion.specs.Across.{arrangement_length, arrangement_at, arrangement_next}
@@ -22,14 +25,6 @@ eqb_suc x y = pick (eqb x y) (eqb? x y)
     pick false (other n) = sym (ne_eqb (suc x) (suc y) (λ (q : suc x ≡ suc y). n (omega arith)))
 
 -- ---- cells
-
--- two robots with the same cell are the same
-pub cell_injective : (r x : ℕ) → cell_of r ≡ cell_of x → r ≡ x
-cell_injective r x e = pick (ℕ_discrete r 255)
-  where
-    pick : Dec (r ≡ 255) → r ≡ x
-    pick (yes h) = h ∙ sym (cell_empty x (sym e ∙ cell_none h))
-    pick (no h) = sym (cell_robot x r (sym e ∙ cell_of_lem h)).0
 
 -- nobody is robot 255
 pub cell_under : (x : ℕ) → suc 255 ≢ cell_of x
@@ -91,6 +86,28 @@ seek_nobody s (v ∷ vs) r e =
     let n : (suc r ≡ cell_of (robot_on s v) → ⊥) = λ q. cell_under (robot_on s v) (ap suc (sym e) ∙ q) in
     ap suc (seek_nobody s vs r e) ∙ sym (seek_other (suc r) (cell_of (robot_on s v)) (arrangement_of s vs) n)
 
+-- the search for a robot is the library's, with the size where it finds none
+pub robot_first : (s : State) (r : ℕ) (vs : List ℕ) (o : Option ℕ)
+    → MatchOption o (AllWithin (λ v. r ≢ robot_on s v) vs 0 (length vs)) (λ i. (i < length vs) × HoldsAt (λ v. r ≡ robot_on s v) vs i × AllWithin (λ v. r ≢ robot_on s v) vs 0 i)
+    → seek (cell_of r) (arrangement_of s vs) ≡ unwrap_or o (length vs)
+unfolding seek arrangement_of
+robot_first s r vs o h =
+    index_from_first (λ l. seek (cell_of r) (arrangement_of s l)) (λ v. r ≡ robot_on s v) (λ v. r ≢ robot_on s v) refl
+    (λ v l e. seek_same (cell_of r) (cell_of (robot_on s v)) (arrangement_of s l) (ap cell_of e))
+    (λ v l n. seek_other (cell_of r) (cell_of (robot_on s v)) (arrangement_of s l) (λ q. n (cell_injective r (robot_on s v) q)) ∙ sym (add-one _))
+    vs o h
+
+-- a zone is full where on each of its vertices somebody stands
+pub full_all : (s : State) (vs : List ℕ) → list_all (λ v. not (eqb (robot_on s v) 255)) vs ≡ full (arrangement_of s vs)
+unfolding full order arrangement_of
+full_all s [] = refl
+full_all s (v ∷ vs) = at (ℕ_discrete (robot_on s v) 255) (full_all s vs)
+  where
+    at : Dec (robot_on s v ≡ 255) → list_all (λ w. not (eqb (robot_on s w) 255)) vs ≡ full (arrangement_of s vs)
+        → list_all (λ w. not (eqb (robot_on s w) 255)) (v ∷ vs) ≡ full (cell_of (robot_on s v) ∷ arrangement_of s vs)
+    at (yes e) h = rw (eq-eqb (robot_on s v) 255 e, cell_none e) (sym (full_free (arrangement_of s vs)))
+    at (no n) h = rw (ne_eqb (robot_on s v) 255 n, cell_of_lem n) (h ∙ sym (full_taken (robot_on s v) (arrangement_of s vs)))
+
 module _ (s : State) (vs : List ℕ) where
   -- the robot on a place, and past the last
   pub robot_here : (j r : ℕ) → j < length vs → r ≡ robot_on s (get_or vs j 0) → cell_of r ≡ cell (arrangement_of s vs) j
@@ -106,28 +123,6 @@ module _ (s : State) (vs : List ℕ) where
   pub taken_here : (j r : ℕ) → j < length vs → r ≡ robot_on s (get_or vs j 0) → r ≢ 255 → cell (arrangement_of s vs) j ≢ 0
   taken_here j r h e n z = let d : suc r ≡ 0 = sym (cell_of_lem n) ∙ robot_here j r h e ∙ z in omega arith
 
-  -- a search from place i on: found, one place further, at the end
-  pub seek_here : (i r x : ℕ) → i < length vs → x ≡ robot_on s (get_or vs i 0) → r ≡ x → i ≡ i + seek (cell_of r) (drop i (arrangement_of s vs))
-  seek_here i r x h e d =
-      omega (
-        arith,
-        ap (seek (cell_of r)) (arrangement_next s vs i x h e),
-        seek_same (cell_of r) (cell_of x) (drop (i + 1) (arrangement_of s vs)) (ap cell_of d),
-      )
-
-  pub seek_further : (i r x : ℕ) → i < length vs → x ≡ robot_on s (get_or vs i 0) → r ≢ x
-      → i + 1 + seek (cell_of r) (drop (i + 1) (arrangement_of s vs)) ≡ i + seek (cell_of r) (drop i (arrangement_of s vs))
-  seek_further i r x h e n =
-      omega (
-        arith,
-        ap (seek (cell_of r)) (arrangement_next s vs i x h e),
-        seek_other (cell_of r) (cell_of x) (drop (i + 1) (arrangement_of s vs)) (λ q. n (cell_injective r x q)),
-      )
-
-  pub seek_none : (i r : ℕ) → length vs ≤ i → i ≡ i + seek (cell_of r) (drop i (arrangement_of s vs))
-  unfolding seek
-  seek_none i r h = omega (arith, ap (seek (cell_of r)) (drop_of_length-le (arrangement_of s vs) {i = i} (omega (arith, arrangement_length s vs))))
-
   -- the places from place i on, where somebody or nobody stands on it
   pub places_taken : (i x : ℕ) → i < length vs → x ≡ robot_on s (get_or vs i 0) → x ≢ 255
       → drop i (arrangement_of s vs) ≡ suc x ∷ drop (i + 1) (arrangement_of s vs)
@@ -141,17 +136,3 @@ module _ (s : State) (vs : List ℕ) where
   -- past the end there are none
   pub places_over : (i : ℕ) → length vs ≤ i → drop i (arrangement_of s vs) ≡ []
   places_over i h = drop_of_length-le (arrangement_of s vs) {i = i} (omega (arith, arrangement_length s vs))
-
-  -- full, read place by place
-  pub full_stops : (i x : ℕ) → i < length vs → x ≡ robot_on s (get_or vs i 0) → x ≡ 255 → false ≡ full (drop i (arrangement_of s vs))
-  full_stops i x h e n = sym (ap full (places_free i x h e n) ∙ full_free (drop (i + 1) (arrangement_of s vs)))
-
-  -- a taken place is passed
-  pub full_on : (i x : ℕ) → i < length vs → x ≡ robot_on s (get_or vs i 0) → x ≢ 255
-      → full (drop (i + 1) (arrangement_of s vs)) ≡ full (drop i (arrangement_of s vs))
-  full_on i x h e n = sym (ap full (places_taken i x h e n) ∙ full_taken x (drop (i + 1) (arrangement_of s vs)))
-
-  -- all places are taken
-  pub full_over : (i : ℕ) → length vs ≤ i → true ≡ full (drop i (arrangement_of s vs))
-  unfolding full order
-  full_over i h = sym (ap full (places_over i h))

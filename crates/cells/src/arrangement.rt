@@ -5,55 +5,42 @@ ghost use Rattle.spec.specs.State.{arrangement_of, across_move, cell_of};
 ghost use Rattle.motion.specs.World.{world, made};
 ghost use Rattle.cells.specs.Cells.{overlaid};
 
-use motion::{State, put_cell};
+use motion::{State, cell_or, put_cell};
 use numbering::{Robot, Vertex};
 
 // The vertex at a place of a zone.
 pub fn vertex_at(zone: &[u8], i: usize) -> Vertex
     ensures { result.0 ≡ get_or zone.now i 0 }
 {
-    if i < zone.len() {
-        return Vertex(zone[i]);
-    }
-    Vertex(0)
+    Vertex(cell_or(zone, i, 0))
 }
 
 // A cell as its index in a table of 256.
 pub fn index_of(x: u8) -> usize
     ensures { (result ≡ x) × (x < 256) }
 {
-    x as usize
+    usize::from(x)
 }
 
 // What stands on a place of an arrangement: 0 for nothing, r + 1 for robot r.
 pub fn cell_at(cells: &[u8], i: usize) -> u8
     ensures { result ≡ get_or cells.now i 0 }
 {
-    if i < cells.len() {
-        return cells[i];
-    }
-    0
+    cell_or(cells, i, 0)
 }
 
 // The earliest place at which x stands; the size where there is none.
 pub fn seek_cell(cells: &[u8], x: u8) -> usize
     ensures { result ≡ seek x cells.now }
 {
-    let mut i: usize = 0;
-    while i < cells.len() {
-        if x == cells[i] {
-            return i;
-        }
-        i += 1;
-    }
-    i
+    cells.iter().position(|y| x == *y).unwrap_or(cells.len())
 }
 
 // A robot as what stands on a place.
 pub fn cell_of(r: Robot) -> u8
     ensures { result ≡ cell_of r.0 }
 {
-    if r.0 == 255 {
+    if r == Robot(255) {
         return 0;
     }
     r.0 + 1
@@ -63,25 +50,12 @@ pub fn cell_of(r: Robot) -> u8
 pub fn cells_of(state: &State, zone: &[u8], cells: &mut [u8])
     ensures { cells.new ≡ overlaid (arrangement_of state.now zone.now) cells.old }
 {
-    let n = zone.len().min(cells.len());
-    let mut k: usize = 0;
-    while k < n {
-        let r = state.robot_on(Vertex(zone[k]));
-        cells[k] = cell_of(r);
-        k += 1;
+    for k in 0..zone.len().min(cells.len()) {
+        cells[k] = cell_of(state.robot_on(Vertex(zone[k])));
     }
 }
 
-fn robot_of(x: u8) -> Robot
-    ensures { result.0 ≡ x - 1 }
-{
-    if x == 0 {
-        return Robot(0);
-    }
-    Robot(x - 1)
-}
-
-// The robot of cell x goes from place i of a zone to place j, in the lent tables and in the lent arrangement.
+// The robot of cell x goes from place i of a zone to place j, in the state and in the lent arrangement.
 pub fn go(
     state: &mut State,
     count: usize,
@@ -95,7 +69,7 @@ pub fn go(
     ensures out_after { world state.new result out.new ≡ made (world state.old count out.old) (across_move zone.now (mv (x - 1) i j)) }
     ensures cells_after { cells.new ≡ apply cells.old (mv (x - 1) i j) }
 {
-    let r = robot_of(x);
+    let r = Robot(x.saturating_sub(1));
     let v = vertex_at(zone, i);
     let w = vertex_at(zone, j);
     put_cell(cells, i, 0);

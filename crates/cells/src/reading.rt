@@ -1,4 +1,4 @@
-// What is read of a zone's arrangement, from the lent table of the robots by vertex.
+// What is read of a zone's arrangement, from the state.
 ghost use Rattle.std.specs.Prelude.{◌≡◌, suc, eqb};
 ghost use Rattle.spec.specs.Arrangement.{seek, cell, full};
 ghost use Rattle.spec.specs.State.{arrangement_of, cell_of};
@@ -10,10 +10,10 @@ use numbering::{Robot, Vertex};
 pub fn robot_at(state: &State, zone: &[u8], j: usize) -> Robot
     ensures { cell_of result.0 ≡ cell (arrangement_of state.now zone.now) j }
 {
-    if j < zone.len() {
-        return state.robot_on(Vertex(zone[j]));
+    match zone.get(j) {
+        Some(v) => state.robot_on(Vertex(*v)),
+        None => Robot(255),
     }
-    Robot(255)
 }
 
 // Does robot r stand on place j?
@@ -21,32 +21,23 @@ pub fn stands(state: &State, zone: &[u8], r: Robot, j: usize) -> bool
     ensures { result ≡ eqb (cell (arrangement_of state.now zone.now) j) (suc r.0) }
 {
     let x = robot_at(state, zone, j);
-    if x.0 == 255 {
-        return false;
-    }
-    x.0 == r.0
+    x != Robot(255) && x == r
 }
 
 // The earliest place on which r stands, or for 255 the earliest empty one; the size where there is none.
 pub fn seek_robot(state: &State, zone: &[u8], r: Robot) -> usize
     ensures { result ≡ seek (cell_of r.0) (arrangement_of state.now zone.now) }
 {
-    let mut i: usize = 0;
-    while i < zone.len() {
-        let x = state.robot_on(Vertex(zone[i]));
-        if r.0 == x.0 {
-            return i;
-        }
-        i += 1;
-    }
-    i
+    zone.iter()
+        .position(|v| r == state.robot_on(Vertex(*v)))
+        .unwrap_or(zone.len())
 }
 
 // The place of a robot; the size where it is not in the zone.
 pub fn place_of(state: &State, zone: &[u8], r: Robot) -> usize
     ensures { result ≡ seek (suc r.0) (arrangement_of state.now zone.now) }
 {
-    if r.0 == 255 {
+    if r == Robot(255) {
         return zone.len();
     }
     seek_robot(state, zone, r)
@@ -56,13 +47,6 @@ pub fn place_of(state: &State, zone: &[u8], r: Robot) -> usize
 pub fn is_full(state: &State, zone: &[u8]) -> bool
     ensures { result ≡ full (arrangement_of state.now zone.now) }
 {
-    let mut i: usize = 0;
-    while i < zone.len() {
-        let x = state.robot_on(Vertex(zone[i]));
-        if x.0 == 255 {
-            return false;
-        }
-        i += 1;
-    }
-    true
+    zone.iter()
+        .all(|v| state.robot_on(Vertex(*v)) != Robot(255))
 }

@@ -102,10 +102,5 @@ pub fn off_zone<'a>(
 {
     let mut targets = [255u8; 128];
     motion::robots_of(goals, &mut targets);
-    for z in 0..zones {
-        if !ends_zone(kind, first, size, listed, z, cells, counts, &targets) {
-            return Some(z);
-        }
-    }
-    None
+    (0..zones).find(|z| !ends_zone(kind, first, size, listed, *z, cells, counts, &targets))
 }

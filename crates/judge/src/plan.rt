@@ -1,5 +1,5 @@
 // A whole plan judged on the lists: the count, the steps, the surplus, the goals.
-ghost use Rattle.std.specs.Prelude.{◌≡◌, ℕ, ◌*◌, ◌/◌, ◌≤◌, length, get_or, take};
+ghost use Rattle.std.specs.Prelude.{◌≡◌, ◌*◌, ◌/◌, ◌≤◌, length, take};
 ghost use Rattle.spec.specs.Layout.{Map, Placing};
 ghost use Rattle.spec.specs.Terms.{zone_count};
 ghost use Rattle.theory.specs.Maps.Placing.{Placed};
@@ -10,46 +10,6 @@ ghost use Rattle.judge.specs.Judging.{JudgedTo};
 use crate::ending::{fill_lists, off_zone};
 use crate::walk::walk;
 use testing::PlanFault;
-
-// Judges the plan whose payload, of `len` bytes, stands in a checked file, on lists that are lent: cells as many as listed vertices, counts all zero.
-fn judge_in<'a>(
-    file: &[u8],
-    len: usize,
-    kind: &'a [u8; 64],
-    first: &'a [u8; 64],
-    size: &'a [u8; 64],
-    listed: &'a [u8],
-    zone: &'a [u8; 128],
-    place: &'a [u8; 128],
-    rows: &[[u64; 2]; 128],
-    n: usize,
-    zones: usize,
-    starts: [u8; 64],
-    goals: [u8; 64],
-    k: usize,
-    cells: &mut [u8],
-    counts: &mut [u8; 64],
-) -> Result<(), PlanFault>
-    requires len_in_bounds { (len ≤ length file.now / 512 * 504) × (2 ≤ len) }
-    requires cells_len { (length cells.old ≡ length listed.now) × (length counts.old ≡ 64) × ((z : ℕ) → get_or counts.old z 0 ≡ 0) }
-    requires placement { Placement n zones k kind.now first.now size.now listed.now zone.now place.now rows.now starts goals }
-    ensures { (m : Map) (pl : Placing) → Given m n k kind.now first.now size.now listed.now zone.now place.now rows.now → zone_count m ≡ zones → Placed m.size pl → pl.starts ≡ take k starts → pl.goals ≡ take k goals → JudgedTo m pl (take len (payload file.now)) result }
-{
-    let count = wire::payload_word(file, 0);
-    let s = motion::standing(starts, k);
-    let g = motion::standing(goals, k);
-    fill_lists(s, first, size, listed, zones, cells, counts);
-    let next = walk(
-        file, len, count, kind, first, size, listed, zone, place, rows, n, k, cells, counts,
-    )?;
-    if next != len {
-        return Err(PlanFault::Short(count));
-    }
-    match off_zone(kind, first, size, listed, zones, cells, counts, g) {
-        Some(z) => Err(PlanFault::Goal(z)),
-        None => Ok(()),
-    }
-}
 
 // Judges the plan whose payload, of `len` bytes, stands in a checked file.
 pub fn judge_plan<'a>(
@@ -75,11 +35,16 @@ pub fn judge_plan<'a>(
     if len < 2 {
         return Err(PlanFault::Short(0));
     }
+    let count = wire::payload_word(file, 0);
+    let s = motion::standing(starts, k);
+    let g = motion::standing(goals, k);
     let mut cells = [0u8; 128];
     let mut counts = [0u8; 64];
-    judge_in(
+    fill_lists(s, first, size, listed, zones, &mut cells, &mut counts);
+    let next = walk(
         file,
         len,
+        count,
         kind,
         first,
         size,
@@ -88,11 +53,15 @@ pub fn judge_plan<'a>(
         place,
         rows,
         n,
-        zones,
-        starts,
-        goals,
         k,
         &mut cells,
         &mut counts,
-    )
+    )?;
+    if next != len {
+        return Err(PlanFault::Short(count));
+    }
+    match off_zone(kind, first, size, listed, zones, &cells, &counts, g) {
+        Some(z) => Err(PlanFault::Goal(z)),
+        None => Ok(()),
+    }
 }

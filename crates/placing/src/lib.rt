@@ -1,170 +1,114 @@
 // A placing read from its file, accepted or refused (document 01, "Block files").
 #![tactic(auto)]
 
-ghost use Rattle.std.specs.Prelude.{◌≡◌, not, ◌≤◌, get_or, eqb, ltb};
-ghost use Rattle.spec.specs.Outcome.{◌and◌};
+ghost use Rattle.std.specs.Prelude.{◌≡◌, ℕ, List, ◌≤◌};
 ghost use Rattle.spec.specs.Layout.{Map, placing_of};
 ghost use Rattle.zoning.specs.Bytes.{held};
 ghost use Rattle.layout.specs.Tables.{entry_of};
-ghost use Rattle.placing.specs.Fault.{sound_of};
-ghost use Rattle.placing.specs.Placing.{placing_in, Nothing, RobotsAre, PlacingIs};
+ghost use Rattle.placing.specs.declared.PlacingFault.TheVariants.{File};
+ghost use Rattle.placing.specs.Placing.{placing_in, Marked, VertexIs, RobotsAre, PlacingIs};
 
-// Why a placing is refused, with the block or the payload offset; None where it is accepted.
-#[derive(Clone, Copy)]
+use checking::{FileFault, check_file};
+use numbering::{Robot, Vertex};
+use zoning::byte;
+
+// Why a placing is refused, with the block or the payload offset.
+#[derive(Clone, Copy, Debug, PartialEq, Eq)]
 pub enum PlacingFault {
-    None,
-    Length,
-    Checksum(usize),
-    Head(usize),
-    Fill(usize),
+    File(FileFault),
     Short(usize),
     Range,
     Start(usize),
     Goal(usize),
 }
 
-// A placing, or why it is refused. Robot r starts on vertex starts[r] and its goal is goals[r].
+impl From<FileFault> for PlacingFault {
+    ghost from_gives = { λ f e. e ≡ File f };
+
+    fn from(f: FileFault) -> PlacingFault {
+        PlacingFault::File(f)
+    }
+}
+
+// A placing. Robot r starts on vertex starts[r] and its goal is goals[r].
 #[derive(Clone, Copy)]
-pub struct PlacingRead {
-    pub fault: PlacingFault,
+pub struct PlacingTables {
     pub robots: u8,
     pub starts: [u8; 64],
     pub goals: [u8; 64],
 }
 
-// Is there no fault?
-fn sound(fault: PlacingFault) -> bool
-    ensures { result ≡ sound_of fault }
+// Reads the vertex at offset o, and marks it; the fault is of one that is not below n, or marked.
+fn read_vertex(
+    file: &[u8],
+    m: usize,
+    n: usize,
+    o: usize,
+    marks: &mut [bool; 256],
+    fault: PlacingFault,
+) -> Result<u8, PlacingFault>
+    ensures { (l : List ℕ) → Marked l marks.old → VertexIs (held file.now m) n o l fault marks.new result }
 {
-    match fault {
-        PlacingFault::None => true,
-        PlacingFault::Length => false,
-        PlacingFault::Checksum(_) => false,
-        PlacingFault::Head(_) => false,
-        PlacingFault::Fill(_) => false,
-        PlacingFault::Short(_) => false,
-        PlacingFault::Range => false,
-        PlacingFault::Start(_) => false,
-        PlacingFault::Goal(_) => false,
-    }
-}
-
-// Nothing is read.
-fn refused(fault: PlacingFault) -> PlacingRead
-    ensures { Nothing fault result }
-{
-    PlacingRead {
-        fault: fault,
-        robots: 0,
-        starts: [0u8; 64],
-        goals: [0u8; 64],
-    }
-}
-
-// Is v below n, and not marked?
-fn fresh(marks: &[u8; 256], v: u8, n: usize) -> bool
-    ensures { result ≡ (ltb v n and not (eqb (get_or marks.now v 0) 1)) }
-{
+    let v = byte(file, m, o).ok_or(PlacingFault::Short(o))?;
     let i = v as usize;
-    if i >= n {
-        return false;
+    if i >= n || marks[i] {
+        return Err(fault);
     }
-    let mark = marks[i];
-    mark != 1
+    marks[i] = true;
+    Ok(v)
 }
 
-// Reads the starts and goals of k robots.
-fn read_robots(file: &[u8], m: usize, n: usize, k: usize) -> PlacingRead
-    requires { k ≤ 64 }
-    ensures { RobotsAre (held file.now m) n k result }
+// Reads the starts and goals of the robots.
+fn read_robots(file: &[u8], m: usize, n: usize, robots: u8) -> Result<PlacingTables, PlacingFault>
+    requires { robots ≤ 64 }
+    ensures { RobotsAre (held file.now m) n robots result }
 {
     let mut starts = [0u8; 64];
     let mut goals = [0u8; 64];
-    let mut started = [0u8; 256];
-    let mut ended = [0u8; 256];
-    let mut i: usize = 0;
-    while i < k {
+    let mut started = [false; 256];
+    let mut ended = [false; 256];
+    for i in 0..robots as usize {
         let o = 1 + i * 2;
-        if o >= m {
-            return refused(PlacingFault::Short(o));
-        }
-        let start = wire::payload_byte(file, o);
-        if !fresh(&started, start, n) {
-            return refused(PlacingFault::Start(o));
-        }
         let q = o + 1;
-        if q >= m {
-            return refused(PlacingFault::Short(q));
-        }
-        let goal = wire::payload_byte(file, q);
-        if !fresh(&ended, goal, n) {
-            return refused(PlacingFault::Goal(q));
-        }
-        starts[i] = start;
-        goals[i] = goal;
-        started[start as usize] = 1;
-        ended[goal as usize] = 1;
-        i += 1;
+        starts[i] = read_vertex(file, m, n, o, &mut started, PlacingFault::Start(o))?;
+        goals[i] = read_vertex(file, m, n, q, &mut ended, PlacingFault::Goal(q))?;
     }
-    PlacingRead {
-        fault: PlacingFault::None,
-        robots: k as u8,
-        starts: starts,
-        goals: goals,
-    }
+    Ok(PlacingTables {
+        robots,
+        starts,
+        goals,
+    })
 }
 
 // Reads a placing from a payload of m bytes, on a map of n vertices.
-fn read_payload(file: &[u8], m: usize, n: usize) -> PlacingRead
+fn read_payload(file: &[u8], m: usize, n: usize) -> Result<PlacingTables, PlacingFault>
     requires { m ≤ 65000 }
     ensures { (p : Map) → p.size ≡ n → PlacingIs (placing_of p (held file.now m)) result }
 {
-    if m <= 0 {
-        return refused(PlacingFault::Short(0));
+    let robots = byte(file, m, 0).ok_or(PlacingFault::Short(0))?;
+    let many = robots > 64;
+    if many || robots as usize > n {
+        return Err(PlacingFault::Range);
     }
-    let k = wire::payload_byte(file, 0);
-    let many = k > 64;
-    if many {
-        return refused(PlacingFault::Range);
-    }
-    if k as usize > n {
-        return refused(PlacingFault::Range);
-    }
-    let read = read_robots(file, m, n, k as usize);
-    let fault = read.fault;
-    if !sound(fault) {
-        return read;
-    }
-    let end = 1 + k as usize * 2;
+    let tables = read_robots(file, m, n, robots)?;
+    let end = 1 + robots as usize * 2;
     if end != m {
-        return refused(PlacingFault::Short(end));
+        return Err(PlacingFault::Short(end));
     }
-    read
+    Ok(tables)
 }
 
 // Reads a placing file on a map of n vertices: the placing, or why it is refused.
-pub fn read_placing(file: &[u8], n: usize) -> PlacingRead
+pub fn read_placing(file: &[u8], n: usize) -> Result<PlacingTables, PlacingFault>
     ensures { (p : Map) → p.size ≡ n → PlacingIs (placing_in p file.now) result }
 {
-    let checked = checking::check_file(file, 2, 1);
-    let m = match checked {
-        checking::Checked::Payload(m) => m,
-        checking::Checked::Length => return refused(PlacingFault::Length),
-        checking::Checked::Checksum(i) => return refused(PlacingFault::Checksum(i)),
-        checking::Checked::Head(i) => return refused(PlacingFault::Head(i)),
-        checking::Checked::Fill(i) => return refused(PlacingFault::Fill(i)),
-    };
+    let m = check_file(file, 2, 1)?;
     read_payload(file, m, n)
 }
 
 // A robot's entry in the table of starts or of goals.
-pub fn vertex_of(table: &[u8; 64], r: numbering::Robot) -> numbering::Vertex
+pub fn vertex_of(table: &[u8; 64], r: Robot) -> Vertex
     ensures { result.0 ≡ entry_of 64 0 table.now r.0 }
 {
-    let i = r.0 as usize;
-    if i >= 64 {
-        return numbering::Vertex(0);
-    }
-    let v = table[i];
-    numbering::Vertex(v)
+    Vertex(layout::entry(table, r.0 as usize, 0))
 }

@@ -1,37 +1,41 @@
-use borrow.Author.Rules.{rules}
-use native.Mathlib.Omega.{arith}
-use Prim.Native.Nat.{◌+◌, ◌*◌}
-use mathlib.Core.Path.{refl, sym, ◌∙◌}
-use Rattle.placing.specs.declared.PlacingFault.TheVariants.{Short, Range}
-use Rattle.placing.specs.Placing.{no_placing, nothing_is, count_short, count_over, count_above, placing_refused, placing_surplus, placing_whole}
+use Rattle.std.proofs.Common.{◌∙◌, arith}
+use Rattle.std.proofs.lemmas.Result.{err_from_is_err_and}
+use Rattle.zoning.specs.Bytes.{held, held_size, present, missing}
+use Rattle.placing.specs.Placing.{placing_refused, count_short, count_over, count_above, placing_fault, placing_surplus, placing_whole}
+use Rattle.placing.proofs.read_payload.Goals.{then-many-via-then-many, then-many-via-else-many+then-robots-n}
 use Rattle.placing.proofs.read_payload.Goals as goal
 
-pub returns-then-m-le0 : goal.returns-then-m-le0
-returns-then-m-le0 c = λ p on.
+pub returns-in_err-robots : goal.returns-in_err-robots
+returns-in_err-robots c = λ p on.
     let a = c.args in
-    nothing_is _ (Short 0) no_placing _ (count_short a.file.now a.m a.n p on c.if-m-le0.true) refl c.refused.ensures.fault_is c.refused.ensures.tables
+    let r = err_from_is_err_and c.from_residual.result c.from_residual.ensures.1 in
+    let w = missing (held a.file.now a.m) 0 c.byte.result c.byte.ensures _ _ c.in_err-robots.ensures.value in
+    rw (r.1, r.2, w.1) (placing_refused _ _ (count_short _ _ p on (w.0 25)))
 
 pub returns-then-many : goal.returns-then-many
 returns-then-many c = λ p on.
     let a = c.args in
-    nothing_is _ Range no_placing _ (count_over a.file.now a.m a.n p on c.payload_byte-k.result c.payload_byte-k.ensures (omega arith) (search rules)) refl c.refused-then-many.ensures.fault_is c.refused-then-many.ensures.tables
+    let k = present (held a.file.now a.m) 0 c.byte.result c.byte.ensures _ _ c.in_ok-robots.ensures.value 25 in
+    placing_refused _ _ (elim c.then-many.branch [
+      | then-many-via-then-many w ↦ count_over _ _ p on _ k (omega arith)
+      | then-many-via-else-many+then-robots-n w ↦ count_above _ _ p on _ k (omega arith) (omega arith)
+    ])
 
-pub returns-then-k-n : goal.returns-then-k-n
-returns-then-k-n c = λ p on.
+pub returns-in_err-tables : goal.returns-in_err-tables
+returns-in_err-tables c = λ p on.
     let a = c.args in
-    nothing_is _ Range no_placing _ (count_above a.file.now a.m a.n p on c.payload_byte-k.result c.payload_byte-k.ensures (omega arith) (search rules) c.if-k-n.true) refl c.refused-then-k-n.ensures.fault_is c.refused-then-k-n.ensures.tables
-
-pub returns-then-not-sound : goal.returns-then-not-sound
-returns-then-not-sound c = λ p on.
-    let a = c.args in
-    placing_refused a.file.now a.m a.n p on c.payload_byte-k.result c.payload_byte-k.ensures (omega arith) (search rules) c.if-k-n.false _ c.read_robots-read.ensures (sym c.sound.ensures ∙ c.if-not-sound.true)
+    let k = present (held a.file.now a.m) 0 c.byte.result c.byte.ensures _ _ c.in_ok-robots.ensures.value 25 in
+    let r = err_from_is_err_and c.from_residual-in_err-tables.result c.from_residual-in_err-tables.ensures.1 in
+    rw (r.1, r.2) (placing_fault _ _ p on _ k (omega arith) (omega arith) _ c.in_err-tables.ensures)
 
 pub returns-then-end-m : goal.returns-then-end-m
 returns-then-end-m c = λ p on.
     let a = c.args in
-    nothing_is _ (Short (1 + c.payload_byte-k.result * 2)) no_placing _ (placing_surplus a.file.now a.m a.n p on c.payload_byte-k.result c.payload_byte-k.ensures (omega arith) (search rules) c.if-k-n.false c.read_robots-read.result c.read_robots-read.ensures (sym c.sound.ensures ∙ c.if-not-sound.false) c.if-end-m.true) refl c.refused-then-end-m.ensures.fault_is c.refused-then-end-m.ensures.tables
+    let k = present (held a.file.now a.m) 0 c.byte.result c.byte.ensures _ _ c.in_ok-robots.ensures.value 25 in
+    placing_refused _ _ (placing_surplus _ _ p on _ k (omega arith) (omega arith) _ c.in_ok-tables.ensures (λ e. c.if-end-m.true (e ∙ held_size a.file.now a.m)))
 
 pub returns : goal.returns
 returns c = λ p on.
     let a = c.args in
-    placing_whole a.file.now a.m a.n p on c.payload_byte-k.result c.payload_byte-k.ensures (omega arith) (search rules) c.if-k-n.false _ c.read_robots-read.ensures (sym c.sound.ensures ∙ c.if-not-sound.false) c.if-end-m.false
+    let k = present (held a.file.now a.m) 0 c.byte.result c.byte.ensures _ _ c.in_ok-robots.ensures.value 25 in
+    placing_whole _ _ p on _ k (omega arith) (omega arith) _ c.in_ok-tables.ensures (omega (arith, held_size a.file.now a.m))

@@ -1,49 +1,30 @@
-use borrow.Author.Rules.{rules}
-use native.Mathlib.Omega.{arith}
-use Prim.Native.Nat.{◌+◌, ◌*◌}
-use mathlib.Core.Path.{refl, sym, ◌∙◌}
-use Rattle.placing.specs.declared.PlacingFault.TheVariants.{Short, Start, Goal}
-use Rattle.placing.specs.Placing.{robots_refused, going_start, going_short, going_start_bad, going_half, going_goal_bad, going_more, going_end}
+use Rattle.std.proofs.Common.{◌≡◌, take, arith}
+use Rattle.std.proofs.lemmas.Result.{err_from_is_err_and}
+use Rattle.placing.specs.Placing.{going_start, going_start_bad, going_goal_bad, going_more, going_end}
 use Rattle.placing.proofs.read_robots.Goals as goal
 
 pub loop-i-init : goal.loop-i-init
-loop-i-init c = (search rules, going_start _ _ _ _)
+loop-i-init c = going_start _ _ _
 
-pub returns-then-o-m : goal.returns-then-o-m
-returns-then-o-m c =
-    let a = c.args in
+pub returns-in_err-starts : goal.returns-in_err-starts
+returns-in_err-starts c =
     let o = c.loop-i in
-    robots_refused _ _ _ _ (Short (1 + o.i * 2)) c.refused.ensures refl (going_short a.file.now a.m a.n a.k o.starts o.goals o.started o.ended o.i o.invariant.1 c.loop-i-test.true c.if-o-m.true)
+    let p = err_from_is_err_and c.from_residual.result c.from_residual.ensures.1 in
+    rw (p.1, p.2) (going_start_bad _ _ _ _ _ _ _ _ o.invariant c.loop-i-test.true _ _ (c.in_err-starts.ensures (take o.i o.starts) o.invariant.started_are))
 
-pub returns-then-not-fresh : goal.returns-then-not-fresh
-returns-then-not-fresh c =
-    let a = c.args in
+pub returns-in_err-goals : goal.returns-in_err-goals
+returns-in_err-goals c =
     let o = c.loop-i in
-    robots_refused _ _ _ _ (Start (1 + o.i * 2)) c.refused-then-not-fresh.ensures refl (going_start_bad a.file.now a.m a.n a.k o.starts o.goals o.started o.ended o.i o.invariant.1 c.loop-i-test.true c.payload_byte-start.result c.payload_byte-start.ensures (omega arith) (sym c.fresh.ensures ∙ c.if-not-fresh.true))
-
-pub returns-then-q-m : goal.returns-then-q-m
-returns-then-q-m c =
-    let a = c.args in
-    let o = c.loop-i in
-    robots_refused _ _ _ _ (Short (1 + o.i * 2 + 1)) c.refused-then-q-m.ensures refl (going_half a.file.now a.m a.n a.k o.starts o.goals o.started o.ended o.i o.invariant.1 c.loop-i-test.true c.payload_byte-start.result c.payload_byte-start.ensures (omega arith) (sym c.fresh.ensures ∙ c.if-not-fresh.false) c.if-q-m.true)
-
-pub returns-then-not-fresh-2 : goal.returns-then-not-fresh-2
-returns-then-not-fresh-2 c =
-    let a = c.args in
-    let o = c.loop-i in
-    robots_refused _ _ _ _ (Goal (1 + o.i * 2 + 1)) c.refused-then-not-fresh-2.ensures refl (going_goal_bad a.file.now a.m a.n a.k o.starts o.goals o.started o.ended o.i o.invariant.1 c.loop-i-test.true c.payload_byte-start.result c.payload_byte-start.ensures (omega arith) (sym c.fresh.ensures ∙ c.if-not-fresh.false) c.payload_byte-goal.result c.payload_byte-goal.ensures (omega arith) (sym c.fresh-in-loop-i.ensures ∙ c.if-not-fresh-2.true))
+    let p = err_from_is_err_and c.from_residual-in_err-goals.result c.from_residual-in_err-goals.ensures.1 in
+    rw (p.1, p.2) (going_goal_bad _ _ _ _ _ _ _ _ o.invariant c.loop-i-test.true _ _ (c.in_ok-starts.ensures (take o.i o.starts) o.invariant.started_are) _ _ (c.in_err-goals.ensures (take o.i o.goals) o.invariant.ended_are))
 
 pub loop-i-preserved : goal.loop-i-preserved
 loop-i-preserved c =
-    let a = c.args in
-    let o = c.loop-i in (
-      search rules,
-      going_more a.file.now a.m a.n a.k o.starts o.goals o.started o.ended o.i o.invariant.1 c.loop-i-test.true c.payload_byte-start.result c.payload_byte-start.ensures (omega arith) (sym c.fresh.ensures ∙ c.if-not-fresh.false) c.payload_byte-goal.result c.payload_byte-goal.ensures (omega arith)
-          (omega (arith, c.requires)) (omega arith) (omega arith) (sym c.fresh-in-loop-i.ensures ∙ c.if-not-fresh-2.false),
-    )
+    let o = c.loop-i in
+    going_more _ _ _ _ _ _ _ _ o.invariant c.loop-i-test.true _ _ (c.in_ok-starts.ensures (take o.i o.starts) o.invariant.started_are) c.requires _ _ (c.in_ok-goals.ensures (take o.i o.goals) o.invariant.ended_are)
 
 pub returns : goal.returns
 returns c =
-    let a = c.args in
     let o = c.loop-i in
-    going_end a.file.now a.m a.n a.k o.starts o.goals o.started o.ended o.i o.invariant.1 (omega arith) (omega arith)
+    let e : o.i ≡ c.args.robots = omega arith in
+    going_end _ _ _ _ _ _ _ (rw e at o.invariant) c.requires

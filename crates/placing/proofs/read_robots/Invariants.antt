@@ -1,9 +1,6 @@
-use Prim.Native.Nat.{◌-◌, ◌≤◌}
+use Rattle.zoning.specs.Bytes.{held}
 use Rattle.placing.specs.Placing.{Going}
 use Rattle.placing.proofs.read_robots.Given as goal
 
 abbrev pub invariant-loop-i : goal.invariant-loop-i
-invariant-loop-i l = (l.i ≤ l.k) × Going l.file l.m l.n l.k l.starts l.goals l.started l.ended l.i
-
-abbrev pub decreases-loop-i : goal.decreases-loop-i
-decreases-loop-i l = l.k - l.i
+invariant-loop-i l = Going (held l.file l.m) l.n l.robots l.starts l.goals l.started l.ended l.i

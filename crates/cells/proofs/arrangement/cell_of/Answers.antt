@@ -1,10 +1,9 @@
-use mathlib.Core.Path.{sym, ◌∙◌}
-use native.Mathlib.Numerals.{add-one}
+use Rattle.std.proofs.Common.{add-one, sym, ◌∙◌, rules, tests}
 use Rattle.theory.specs.Maps.Cells.{cell_of_lem, cell_none}
 use Rattle.cells.proofs.arrangement.cell_of.Goals as goal
 
-pub returns-then-r-eq255 : goal.returns-then-r-eq255
-returns-then-r-eq255 c = sym (cell_none c.if-r-eq255.true)
+pub returns-then-eq : goal.returns-then-eq
+returns-then-eq c = sym (cell_none (search (rules, tests)))
 
 pub returns : goal.returns
-returns c = add-one _ ∙ sym (cell_of_lem c.if-r-eq255.false)
+returns c = add-one _ ∙ sym (cell_of_lem (search (rules, tests)))

@@ -1,25 +1,14 @@
-use borrow.Author.Rules.{rules}
-use mathlib.Core.Path.{refl, ◌∙◌}
-use Rattle.cells.specs.Reading.{full_stops, full_on, full_over}
+use Rattle.std.specs.Prelude.{not, eqb}
+use Rattle.std.proofs.Common.{◌∙◌, rules, tests}
+use Rattle.std.proofs.lemmas.Iterator.{YieldsList-from_slice}
+use Rattle.std.proofs.lemmas.Iterator.Search.{all_from_yields_List}
+use Rattle.spec.specs.State.{robot_on}
+use Rattle.cells.specs.Reading.{full_all}
 use Rattle.cells.proofs.reading.is_full.Goals as goal
-
-pub loop-i-init : goal.loop-i-init
-loop-i-init c = (search rules, refl)
-
-pub returns-then-x : goal.returns-then-x
-returns-then-x c =
-    let a = c.args in
-    let o = c.loop-i in
-    full_stops a.state.now a.zone.now o.i c.robot_on-x.result.0 (search rules) c.robot_on-x.ensures c.if-x.true ∙ o.invariant.1
-
-pub loop-i-preserved : goal.loop-i-preserved
-loop-i-preserved c =
-    let a = c.args in
-    let o = c.loop-i in
-    (search rules, full_on a.state.now a.zone.now o.i c.robot_on-x.result.0 (search rules) c.robot_on-x.ensures c.if-x.false ∙ o.invariant.1)
 
 pub returns : goal.returns
 returns c =
-    let a = c.args in
-    let o = c.loop-i in
-    full_over a.state.now a.zone.now o.i (search rules) ∙ o.invariant.1
+    let s = c.args.state.now in
+    let vs = c.args.zone.now in
+    all_from_yields_List (λ v. not (eqb (robot_on s v) 255)) _ _ _ c.all.ensures.ran (YieldsList-from_slice vs cc) (λ y b q k. search (rules, tests))
+    ∙ full_all s vs

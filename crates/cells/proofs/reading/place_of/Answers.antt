@@ -1,13 +1,13 @@
-use Prim.Native.Nat.{ℕ}
-use mathlib.Core.Path.{ap, ◌∙◌}
+use Rattle.std.proofs.Common.{ℕ, ap, ◌∙◌, rules}
 use Rattle.spec.specs.Arrangement.{seek}
 use Rattle.spec.specs.State.{arrangement_of}
 use Rattle.cells.specs.Reading.{seek_nobody}
 use Rattle.theory.specs.Maps.Cells.{cell_of_lem}
 use Rattle.cells.proofs.reading.place_of.Goals as goal
 
-pub returns-then-r-eq255 : goal.returns-then-r-eq255
-returns-then-r-eq255 c = seek_nobody c.args.state.now c.args.zone.now c.args.r.0 c.if-r-eq255.true
+pub returns-then-eq : goal.returns-then-eq
+returns-then-eq c = seek_nobody c.args.state.now c.args.zone.now c.args.r.0 (search rules)
 
 pub returns : goal.returns
-returns c = c.seek_robot.ensures ∙ ap (λ (x : ℕ). seek x (arrangement_of c.args.state.now c.args.zone.now)) (cell_of_lem c.if-r-eq255.false)
+returns c =
+    c.seek_robot.ensures ∙ ap (λ (x : ℕ). seek x (arrangement_of c.args.state.now c.args.zone.now)) (cell_of_lem (search rules))

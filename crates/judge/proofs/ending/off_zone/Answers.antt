@@ -1,32 +1,25 @@
+use borrow.Author.Rules.{rules}
+use mathlib.Core.Bool.{Bool, true, false}
+use mathlib.Core.Path.{◌≡◌, ◌∙◌}
+use Prim.Native.Nat.{ℕ}
+use lib.ListN.{get_or}
+use Rattle.std.proofs.lemmas.Iterator.{first_from_Range}
+use Rattle.spec.specs.Arrangement.{order}
+use Rattle.spec.specs.State.{arrangement_of}
+use Rattle.motion.specs.Tables.{on_vertices}
+use Rattle.walking.specs.Tables.{vertices_in}
+use Rattle.orders.specs.Orders.{end_test}
+use Rattle.testing.specs.Held.{list_in}
 use Rattle.judge.specs.Filling.{goals_by}
-use mathlib.Core.Path.{sym, ◌∙◌}
-use Prim.Native.Nat.{◌<◌}
-use Rattle.spec.specs.Terms.{zone_count}
-use Rattle.judge.specs.Endings.{goals_next, goals_off, goals_all}
+use Rattle.judge.specs.Endings.{goals_found}
 use Rattle.judge.specs.Judging.{ends_by}
 use Rattle.judge.proofs.ending.off_zone.Goals as goal
-
-pub returns-then-not-ends_zone : goal.returns-then-not-ends_zone
-returns-then-not-ends_zone c =
-    λ m n k zone place rows d e s h x.
-    let a = c.args in
-    let l = c.loop-z in
-    let t : l.z < zone_count m = rw e c.loop-z-test.true in
-    sym (l.invariant m n k zone place rows d e s h x ∙ goals_off m s _ l.z t
-    (sym (ends_by m n k a.kind.now a.first.now a.size.now a.listed.now zone place rows d s _ a.counts.now a.cells.now h x l.z t) ∙ sym c.ends_zone.ensures ∙ c.if-not-ends_zone.true)) ∙ goals_by m.zones s a.goals _ c.robots_of.ensures
-
-pub loop-z-preserved : goal.loop-z-preserved
-loop-z-preserved c =
-    λ m n k zone place rows d e s h x.
-    let a = c.args in
-    let l = c.loop-z in
-    let t : l.z < zone_count m = rw e c.loop-z-test.true in
-    l.invariant m n k zone place rows d e s h x ∙ goals_next m s _ l.z t
-    (sym (ends_by m n k a.kind.now a.first.now a.size.now a.listed.now zone place rows d s _ a.counts.now a.cells.now h x l.z t) ∙ sym c.ends_zone.ensures ∙ c.if-not-ends_zone.false)
 
 pub returns : goal.returns
 returns c =
     λ m n k zone place rows d e s h x.
     let a = c.args in
-    let l = c.loop-z in
-    sym (l.invariant m n k zone place rows d e s h x ∙ goals_all m s _ l.z (rw e c.loop-z-test.false)) ∙ goals_by m.zones s a.goals _ c.robots_of.ensures
+    let g = on_vertices c.robots_of.new.robots in
+    let t : ℕ → Bool = λ z. end_test (get_or a.kind.now z 0) (get_or a.size.now z 0) (list_in a.first.now a.counts.now a.cells.now z) (order (arrangement_of g (vertices_in a.first.now a.size.now a.listed.now z))) in
+    goals_found m s g t (λ z l. ends_by m n k a.kind.now a.first.now a.size.now a.listed.now zone place rows d s g a.counts.now a.cells.now h x z l) a.zones e c.find.result
+    (first_from_Range _ _ _ c.find.result (λ z. t z ≡ false) (λ z. t z ≡ true) c.find.ensures.ran (λ z q y. search rules) (λ z q y. search rules)) ∙ goals_by m.zones s a.goals _ c.robots_of.ensures

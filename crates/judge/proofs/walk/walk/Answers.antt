@@ -25,9 +25,13 @@ returns-in_err-x c =
     let l = c.loop-i in
     let p = err_from_is_err_and c.from_residual.result c.from_residual.ensures.1 in
     let w = mapped_err _ _ _ c.test_step.result c.map_err.result (λ t g. g ≡ refusal_of l.i-counter t) (λ t g h. search rules) c.in_err-x.field-0.0 c.map_err.ensures.cases c.test_step.ensures c.in_err-x.was in
-    rw (p.1, p.2) (l.invariant.room, l.invariant.many, λ m d s hc x.
-        let j = l.invariant.judging m d s hc x in
-        judging_stop d a.file.now a.len c.requires.len_in_bounds.0 a.count l.invariant.room l.invariant.many j w.0 w.2 (w.1 m d j.world.state j.walking.consistent j.held l.i-counter) c.loop-i-test.true)
+    rw (p.1, p.2) (
+      l.invariant.room,
+      l.invariant.many,
+      λ m d s hc x.
+          let j = l.invariant.judging m d s hc x in
+          judging_stop d a.file.now a.len c.requires.len_in_bounds.0 a.count l.invariant.room l.invariant.many j w.0 w.2 (w.1 m d j.world.state j.walking.consistent j.held l.i-counter) c.loop-i-test.true,
+    )
 
 pub overflow_add-o : goal.overflow_add-o
 overflow_add-o c =
