@@ -15,6 +15,8 @@ use Rattle.cells.specs.Reading.{robot_here, empty_here}
 use Rattle.walking.specs.Kinds.{leave_moves, enter_moves}
 use Rattle.zones.specs.Ready.{leave_ready, enter_ready}
 use Rattle.zones.specs.Near.{near_place, leave_near}
+use Rattle.layout.specs.Lists.{MapLists, part_of}
+use Rattle.walking.specs.OnMap.{kind_on, vertices_on, place_on}
 
 module _ (kind : ℕ) (s : State) (vs : List ℕ) (p : Proper (arrangement_of s vs)) (j : ℕ) (h : j < length vs) where
   -- a place of the zone is one of its arrangement
@@ -48,3 +50,22 @@ module _ (kind : ℕ) (s : State) (vs : List ℕ) (p : Proper (arrangement_of s 
   entered_ready v behind list w e x q b =
       let c : cell (arrangement_of s vs) j ≡ 0 = empty_here s vs j 255 h (q ∙ ap (robot_on s) (sym e)) refl in
       made_nothing w vs _ (enter_ready kind (arrangement_of s vs) j behind list p placed c b x)
+
+-- ---- the same zone, by the map's tables
+
+-- what was looked up is the zone of a vertex by the tables
+pub record Looked (t : MapLists) (v z kind place : ℕ) (vs : List ℕ) : Type 0 where
+  pub kinds : kind ≡ kind_on t v
+  pub places : place ≡ place_on t v
+  pub vertices : vs ≡ vertices_on t v
+
+pub looked : (t : MapLists) (v z kind place : ℕ) (vs : List ℕ) → z ≡ get_or t.zone v 0 → kind ≡ get_or t.kind z 0 → place ≡ place_on t v → vs ≡ part_of t z → Looked t v z kind place vs
+looked t v z kind place vs e k p q = record { kinds = k ∙ ap (λ (x : ℕ). get_or t.kind x 0) e; places = p; vertices = q ∙ ap (part_of t) e }
+
+module _ (w : World) (s : State) (t : MapLists) (v z kind place : ℕ) (vs : List ℕ) (l : Looked t v z kind place vs) where
+  pub leave_looked : (r : ℕ) → made_all w (across vs (leave_moves kind (arrangement_of s vs) r place)) ≡ made_all w (across (vertices_on t v) (leave_moves (kind_on t v) (arrangement_of s (vertices_on t v)) r (place_on t v)))
+  leave_looked r = rw (l.kinds, l.places, l.vertices)
+
+  pub enter_looked : (behind : ℕ) (list other : List ℕ) → list ≡ other
+      → made_all w (across vs (enter_moves kind (arrangement_of s vs) place behind list)) ≡ made_all w (across (vertices_on t v) (enter_moves (kind_on t v) (arrangement_of s (vertices_on t v)) (place_on t v) behind other))
+  enter_looked behind list other e = rw (l.kinds, l.places, l.vertices, e)

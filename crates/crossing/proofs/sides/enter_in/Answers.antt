@@ -1,3 +1,4 @@
+use Rattle.numbering.specs.Kind.{number_of}
 use native.Mathlib.Nat.{le_refl}
 use Rattle.walking.specs.Kinds.{enter_moves}
 use Rattle.motion.specs.World.{world, made_all}
@@ -23,4 +24,4 @@ returns c =
     let a = c.args in
     let e = c.copy_list.ensures (a.from + length a.list.now) c.requires.zone_len_bound.3 (le_refl _) in
     c.enter.ensures
-    ∙ ap (λ (l : List ℕ). made_all (world a.state.now a.count a.out.now) (across a.zone.now (enter_moves a.kind (arrangement_of a.state.now a.zone.now) a.j a.behind l))) e
+    ∙ ap (λ (l : List ℕ). made_all (world a.state.now a.count a.out.now) (across a.zone.now (enter_moves (number_of a.kind) (arrangement_of a.state.now a.zone.now) a.j a.behind l))) e

@@ -1,3 +1,4 @@
+use Rattle.numbering.specs.Kind.{number_of}
 use Rattle.crossing.specs.Sides.{entered_ready}
 use Rattle.clique.specs.Entering.{numbered_none}
 use Rattle.motion.specs.World.{world}
@@ -12,7 +13,7 @@ unfolding arrangement_of
 returns-then-is_ready c =
     let a = c.args in
     let q = c.is_ready.ensures c.if-is_ready.true in
-    entered_ready a.kind a.state.now a.zone.now c.requires.proper a.j c.requires.zone_len_bound.1 a.v.0 a.behind [] (world a.state.now a.count a.out.now) c.requires.zone_len_bound.2 c.requires.zone_value q.0 q.1
+    entered_ready (number_of a.kind) a.state.now a.zone.now c.requires.proper a.j c.requires.zone_len_bound.1 a.v.0 a.behind [] (world a.state.now a.count a.out.now) c.requires.zone_len_bound.2 c.requires.zone_value q.0 q.1
 
 pub enter-requires : goal.enter-requires
 unfolding arrangement_of

@@ -3,10 +3,10 @@ use lib.Dec.{eqb→eq}
 use Rattle.theory.specs.Basics.Tests.{of_true}
 use Rattle.crossing.proofs.sides.is_ready.Goals as goal
 
-pub returns-then-robot_in : goal.returns-then-robot_in
-returns-then-robot_in c =
+pub returns-then-taken : goal.returns-then-taken
+returns-then-taken c =
     λ q. absurd (of_true q)
 
 pub returns : goal.returns
 returns c =
-    λ q. (sym c.if-robot_in.false ∙ c.robot_in.ensures, sym c.behind_of-nearest.ensures ∙ eqb→eq _ _ (of_true q))
+    λ q. (sym c.if-taken.false ∙ c.robot_on-there.ensures, sym c.behind_of-nearest.ensures ∙ eqb→eq _ _ (of_true q))

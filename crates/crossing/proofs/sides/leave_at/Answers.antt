@@ -1,32 +1,41 @@
-use Rattle.crossing.specs.Sides.{left_ready}
-use Rattle.walking.specs.Given.{part, kind_at, vertices_at}
-use Rattle.walking.specs.Kinds.{leave_moves}
-use Rattle.motion.specs.World.{world, made_all}
-use Rattle.spec.specs.State.{arrangement_of, across}
-use lib.ListN.{get_or}
-use Prim.Native.Nat.{ℕ}
-use mathlib.Core.List.{List}
-use mathlib.Core.Path.{sym, ap, ◌∙◌}
+use Rattle.numbering.specs.Kind.{number_of}
+use Rattle.crossing.specs.Sides.{left_ready, looked, leave_looked}
+use Rattle.walking.specs.OnMap.{kind_on, vertices_on, place_on}
+use Rattle.motion.specs.World.{world}
+use Rattle.spec.specs.State.{arrangement_of}
+use borrow.Author.Rules.{rules}
+use mathlib.Core.Path.{sym, ◌∙◌}
 use Rattle.crossing.proofs.sides.leave_at.Goals as goal
 
-pub returns-then-robot_in-r : goal.returns-then-robot_in-r
+pub returns-then-here : goal.returns-then-here
 unfolding arrangement_of
-returns-then-robot_in-r c =
+returns-then-here c =
     let a = c.args in
-    left_ready (kind_at a.kind.now a.zone.now a.u) a.state.now (vertices_at a.first.now a.size.now a.listed.now a.zone.now a.u) c.requires.proper (get_or a.place.now a.u 0) c.requires.has_vertex.inside a.r a.u (world a.state.now a.count a.out.now) c.requires.has_vertex.there c.requires.u_value (sym c.if-robot_in-r.true ∙ c.robot_in.ensures)
+    let t = a.map.now in
+    left_ready (kind_on t a.u.0) a.state.now (vertices_on t a.u.0) c.requires.proper (place_on t a.u.0) c.requires.has_vertex.inside a.r.0 a.u.0 (world a.state.now a.count a.out.now) c.requires.has_vertex.there c.requires.u_value (sym (search rules) ∙ c.robot_on-there.ensures)
+
+pub vertices_of-zone-requires : goal.vertices_of-zone-requires
+vertices_of-zone-requires c =
+    let e = c.zone_of-z.ensures.below c.requires.has_vertex.below in
+    record { below = rw e c.requires.has_vertex.here.below; inside = rw e c.requires.has_vertex.here.fits }
+
+pub kind_of-requires : goal.kind_of-requires
+kind_of-requires c = rw (c.zone_of-z.ensures.below c.requires.has_vertex.below) c.requires.has_vertex.here.below
 
 pub leave_in-requires : goal.leave_in-requires
 unfolding arrangement_of
 leave_in-requires c =
-    let a = c.args in
-    let z : ℕ = get_or a.zone.now a.u 0 in
-    let e = part (get_or a.first.now z 0) (get_or a.size.now z 0) a.listed.now in
-    record { zone_len_bound = (rw e c.requires.has_vertex.here.long, rw e c.requires.has_vertex.inside, rw e c.requires.has_vertex.there); listed = rw (e, c.requires.robots_len) c.requires.has_vertex.here.once; j_value = rw e c.requires.u_value; proper = rw e c.requires.proper }
+    let l = looked c.args.map.now c.args.u.0 _ _ _ _ (c.zone_of-z.ensures.below c.requires.has_vertex.below) c.kind_of.ensures c.place_of.ensures c.vertices_of-zone.ensures in
+    record {
+      zone_len_bound = (rw l.vertices c.requires.has_vertex.here.long, rw (l.vertices, l.places) c.requires.has_vertex.inside, rw (l.vertices, l.places) c.requires.has_vertex.there);
+      listed = rw (l.vertices, c.requires.robots_len) c.requires.has_vertex.here.once;
+      j_value = rw (l.kinds, l.vertices, l.places) c.requires.u_value;
+      proper = rw l.vertices c.requires.proper;
+    }
 
 pub returns : goal.returns
 unfolding arrangement_of
 returns c =
     let a = c.args in
-    let z : ℕ = get_or a.zone.now a.u 0 in
-    c.leave_in.ensures
-    ∙ ap (λ (vs : List ℕ). made_all (world a.state.now a.count a.out.now) (across vs (leave_moves (kind_at a.kind.now a.zone.now a.u) (arrangement_of a.state.now vs) a.r (get_or a.place.now a.u 0)))) (part (get_or a.first.now z 0) (get_or a.size.now z 0) a.listed.now)
+    let l = looked a.map.now a.u.0 _ _ _ _ (c.zone_of-z.ensures.below c.requires.has_vertex.below) c.kind_of.ensures c.place_of.ensures c.vertices_of-zone.ensures in
+    c.leave_in.ensures ∙ leave_looked (world a.state.now a.count a.out.now) a.state.now a.map.now a.u.0 _ _ _ _ l a.r.0

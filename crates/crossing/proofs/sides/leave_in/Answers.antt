@@ -1,3 +1,4 @@
+use Rattle.numbering.specs.Kind.{number_of}
 use Rattle.crossing.specs.Sides.{left_near}
 use Rattle.motion.specs.World.{world}
 use Rattle.spec.specs.State.{arrangement_of}
@@ -9,8 +10,8 @@ pub returns-then-x-r : goal.returns-then-x-r
 unfolding arrangement_of
 returns-then-x-r c =
     let a = c.args in
-    let q : c.robot_in-there.result ≡ 255 = search rules in
-    left_near a.kind a.state.now a.zone.now c.requires.proper a.j c.requires.zone_len_bound.1 a.r a.u.0 _ _ _ (world a.state.now a.count a.out.now) _ c.requires.zone_len_bound.2 c.requires.j_value (sym q ∙ c.robot_in-there.ensures) c.near_place-i.ensures c.robot_at-x.ensures c.if-x-r.true c.vertex_at-w.ensures c.make.ensures
+    let q : c.robot_on-there.result.0 ≡ 255 = search rules in
+    left_near (number_of a.kind) a.state.now a.zone.now c.requires.proper a.j c.requires.zone_len_bound.1 a.r.0 a.u.0 _ _ _ (world a.state.now a.count a.out.now) _ c.requires.zone_len_bound.2 c.requires.j_value (sym q ∙ c.robot_on-there.ensures) c.near_place-i.ensures c.robot_at-x.ensures c.if-x-r.true c.vertex_at-w.ensures c.make.ensures
 
 pub leave-requires : goal.leave-requires
 unfolding arrangement_of
