@@ -9,57 +9,49 @@ ghost use Rattle.spec.specs.Terms.{zone_count};
 ghost use Rattle.theory.specs.Maps.Consistent.{Consistent};
 ghost use Rattle.theory.specs.Zones.Crossing.{Proper};
 ghost use Rattle.motion.specs.World.{world, made_all};
+ghost use Rattle.layout.specs.Lists.{part_of};
 ghost use Rattle.walking.specs.Kinds.{end_moves};
-ghost use Rattle.walking.specs.Tables.{vertices_in};
-ghost use Rattle.walking.specs.Given.{Given, HasZone, Bringing};
+ghost use Rattle.walking.specs.Given.{Given};
+ghost use Rattle.walking.specs.OnMap.{ZoneOn, BringingOn};
 
+use layout::MapTables;
 use motion::State;
+use numbering::Zone;
 
 // The moves that bring zone z to its goals, which can be reached.
-fn end_zone<'a>(
+fn end_zone(
     state: &mut State,
     count: usize,
-    kind: &'a [u8; 64],
-    first: &'a [u8; 64],
-    size: &'a [u8; 64],
-    listed: &'a [u8],
-    z: usize,
+    map: &MapTables,
+    z: Zone,
     goals: &State,
     out: &mut [u8],
 ) -> usize
-    requires has_zone { HasZone first.now size.now listed.now z }
-    requires z_value { can_end (get_or kind.now z 0) (arrangement_of state.old (vertices_in first.now size.now listed.now z)) (arrangement_of goals.now (vertices_in first.now size.now listed.now z)) ≡ true }
+    requires has_zone { ZoneOn map.now z.0 }
+    requires z_value { can_end (get_or map.now.kind z.0 0) (arrangement_of state.old (part_of map.now z.0)) (arrangement_of goals.now (part_of map.now z.0)) ≡ true }
     requires robots_len { length state.old.robots ≡ 128 }
-    requires proper { Proper (arrangement_of state.old (vertices_in first.now size.now listed.now z)) }
-    ensures { world state.new result out.new ≡ made_all (world state.old count out.old) (across (vertices_in first.now size.now listed.now z) (end_moves (get_or kind.now z 0) (arrangement_of state.old (vertices_in first.now size.now listed.now z)) (arrangement_of goals.now (vertices_in first.now size.now listed.now z)))) }
+    requires proper { Proper (arrangement_of state.old (part_of map.now z.0)) }
+    ensures { world state.new result out.new ≡ made_all (world state.old count out.old) (across (part_of map.now z.0) (end_moves (get_or map.now.kind z.0 0) (arrangement_of state.old (part_of map.now z.0)) (arrangement_of goals.now (part_of map.now z.0)))) }
 {
-    let a = first[z] as usize;
-    let e = a + size[z] as usize;
-    zones::bring_to_goals(kind[z], state, count, &listed[a..e], goals, out)
+    let kind = map.kind_of(z);
+    let zone = map.vertices_of(z);
+    zones::bring_to_goals(kind, state, count, zone, goals, out)
 }
 
 // The moves that bring every zone to its goals, which can be reached.
-pub fn end_zones<'a>(
+pub fn end_zones(
     state: &mut State,
     count: usize,
-    kind: &'a [u8; 64],
-    first: &'a [u8; 64],
-    size: &'a [u8; 64],
-    listed: &'a [u8],
-    zones: usize,
+    map: &MapTables,
     goals: &State,
     out: &mut [u8],
 ) -> usize
-    requires { Bringing zones kind.now first.now size.now listed.now state.old goals.now }
-    ensures { (m : Map) (n k : ℕ) (zone place : List ℕ) (rows : List (List ℕ)) → Given m n k kind.now first.now size.now listed.now zone place rows → zone_count m ≡ zones → Consistent m k state.old → goals_from 0 m.zones state.old goals.now ≡ ok tt → world state.new result out.new ≡ made_all (world state.old count out.old) (endings_from m.zones state.old goals.now) }
+    requires { BringingOn map.now state.old goals.now }
+    ensures { (m : Map) (n k : ℕ) (zone place : List ℕ) (rows : List (List ℕ)) → Given m n k map.now.kind map.now.first map.now.size map.now.listed zone place rows → zone_count m ≡ map.now.zones → Consistent m k state.old → goals_from 0 m.zones state.old goals.now ≡ ok tt → world state.new result out.new ≡ made_all (world state.old count out.old) (endings_from m.zones state.old goals.now) }
 {
     let mut made = count;
-    let mut z: usize = 0;
-    while z < zones {
-        made = end_zone(
-            state, made, kind, first, size, listed, z, goals, out,
-        );
-        z += 1;
+    for z in 0..map.zones() {
+        made = end_zone(state, made, map, Zone(z as u8), goals, out);
     }
     made
 }

@@ -1,5 +1,5 @@
 -- A cleared plan, resolved: the walk, the goals, the endings.
-use Rattle.std.specs.Prelude.{◌≡◌, Bool, true, false, List, ◌++◌, ℕ, ◌≤◌, ◌<◌, take}
+use Rattle.std.specs.Prelude.{◌≡◌, Result, Ok, Err, MatchResult, List, ◌++◌, ℕ, ◌≤◌, ◌<◌, take}
 use Rattle.std.proofs.Common.{sym, ◌∙◌, ⊎_elim}
 use Rattle.std.proofs.Math.Path.{ap}
 use native.Mathlib.Omega.{arith}
@@ -24,8 +24,7 @@ use Rattle.motion.specs.World.{World, world, made_all, made_append, count_is, bu
 use Rattle.walking.specs.Given.{Started, Cleared}
 use Rattle.walking.specs.Walk.{WalkOf, OverOf, after}
 use Rattle.walking.specs.Left.{resolved_on, fresh, on_none, on_steps, start_consistent}
-use Rattle.resolve.specs.declared.Resolved.{Resolved}
-use Rattle.resolve.specs.declared.Walked.{Walked}
+use Rattle.resolve.specs.declared.TooManyMoves.{TooManyMoves}
 
 -- what resolving the payload p comes to, from a buffer o₀ to a buffer o: the defined list's length and bytes
 pub record ResolvedTo (m : Map) (pl : Placing) (p o₀ o : List ℕ) (count : ℕ) : Type 0 where
@@ -40,28 +39,13 @@ pub record OverTo (m : Map) (pl : Placing) (p : List ℕ) (c : ℕ) : Type 0 whe
   pub most : (ms : List Move) → resolved_moves m pl p ≡ ok ms → c ≤ length ms
 
 -- the list resolved, or given up since it is too long in any case
-pub record ResolvedOr (m : Map) (pl : Placing) (p o₀ o : List ℕ) (r : Resolved) : Type 0 where
-  pub whole : r.over ≡ false → ResolvedTo m pl p o₀ o r.count
-  pub part : r.over ≡ true → OverTo m pl p r.count
+pub record ResolvedOr (m : Map) (pl : Placing) (p o₀ o : List ℕ) (r : Result ℕ TooManyMoves) : Type 0 where
+  pub either : MatchResult r (ResolvedTo m pl p o₀ o) (λ _. (c : ℕ) × OverTo m pl p c)
   pub long : length o ≡ length o₀
 
 -- what a walk comes to, or that it was given up
-pub record WalkedTo (m : Map) (k : ℕ) (p : List ℕ) (n : ℕ) (w₀ : World) (q : Walked) (w : World) : Type 0 where
-  pub whole : q.over ≡ false → (next : ℕ) × WalkOf m k p n w₀ w next
-  pub part : q.over ≡ true → OverOf m k p n w₀ w
-
--- true is not false
-bools : ◌≡◌ {A = Bool} true false → ⊥
-bools q = let y : ◌≡◌ {A = ℕ} 0 1 = cc in omega arith
-
-module _ (m : Map) (k : ℕ) (p : List ℕ) (n : ℕ) (w₀ : World) (q : Walked) (w : World) where
-  -- a walk to its end
-  pub walked_whole : q.over ≡ false → (next : ℕ) → WalkOf m k p n w₀ w next → WalkedTo m k p n w₀ q w
-  walked_whole e next x = record { whole = λ t. (next, x); part = λ t. absurd (bools (sym t ∙ e)) }
-
-  -- a walk that was given up
-  pub walked_part : q.over ≡ true → OverOf m k p n w₀ w → WalkedTo m k p n w₀ q w
-  walked_part e x = record { whole = λ t. absurd (bools (sym e ∙ t)); part = λ t. x }
+abbrev pub WalkedTo : Map → ℕ → List ℕ → ℕ → World → Result ℕ TooManyMoves → meaning.State → List ℕ → Type 0
+WalkedTo m k p n w₀ r s o = MatchResult r (λ made. (next : ℕ) × WalkOf m k p n w₀ (world s made o) next) (λ _. (made : ℕ) × OverOf m k p n w₀ (world s made o))
 
 -- a resolved list is far below the count's bound
 few_moves : (m : Map) → Accepted m → zone_count m ≤ 64 → (pl : Placing) (p : List ℕ) (ms : List Move) → length p ≤ 32256 → resolved_moves m pl p ≡ ok ms → length ms ≤ most_moves
@@ -137,10 +121,9 @@ module _ (f : List ℕ) (zones k : ℕ) (kind first size listed zone place start
       )
 
   -- a walk that was given up: any list is too long
-  pub cleared_over : (r : Resolved) (w : World) → r.over ≡ true → r.count ≡ w.count → OverOf x.on.map k p n (fresh s o₀) w → ResolvedOr x.on.map x.on.placing p o₀ w.buffer r
-  cleared_over r w t e d = record {
-    whole = λ q. absurd (bools (sym t ∙ q));
-    part = λ q. record { over = omega (arith, e, d.over); most = λ ms y. omega (arith, e, long ms y) };
+  pub cleared_over : (r : TooManyMoves) (w : World) → OverOf x.on.map k p n (fresh s o₀) w → ResolvedOr x.on.map x.on.placing p o₀ w.buffer (Err r)
+  cleared_over r w d = record {
+    either = (w.count, record { over = d.over; most = long });
     long = ap (λ (y : World). length y.buffer) d.reached ∙ buffer_length (fresh s o₀) d.moves;
   }
     where
@@ -165,20 +148,19 @@ module _ (f : List ℕ) (zones k : ℕ) (kind first size listed zone place start
       cleared_goals = rw eg rest.0
 
       -- they are made
-      pub cleared_end : (r : Resolved) (t : meaning.State) (o : List ℕ) → r.over ≡ false → world t r.count o ≡ made_all w (endings_from x.on.map.zones w.state g)
-          → ResolvedOr x.on.map x.on.placing p o₀ o r
-      cleared_end r t o z y = record {
-        whole = λ q. record {
+      pub cleared_end : (count : ℕ) (t : meaning.State) (o : List ℕ) → world t count o ≡ made_all w (endings_from x.on.map.zones w.state g)
+          → ResolvedOr x.on.map x.on.placing p o₀ o (Ok count)
+      cleared_end count t o y = record {
+        either = record {
           moves = x.moves;
           answer = x.resolved;
           counted = ap (λ (u : World). u.count) onto ∙ count_is (fresh s o₀) x.moves (omega (arith, few x.moves x.resolved)) ∙ omega arith;
           buffer = ap (λ (u : World). u.buffer) onto ∙ buffer_is (fresh s o₀) x.moves (omega (arith, few x.moves x.resolved));
         };
-        part = λ q. absurd (bools (sym q ∙ z));
         long = ap (λ (u : World). length u.buffer) onto ∙ buffer_length (fresh s o₀) x.moves;
       }
         where
-          onto : world t r.count o ≡ made_all (fresh s o₀) x.moves
+          onto : world t count o ≡ made_all (fresh s o₀) x.moves
           onto =
               y ∙ ap (λ (u : World). made_all u (endings_from x.on.map.zones w.state g)) d.reached
               ∙ sym (made_append (fresh s o₀) d.moves (endings_from x.on.map.zones w.state g))

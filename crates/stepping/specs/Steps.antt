@@ -22,6 +22,10 @@ use Rattle.walking.specs.Given.{Started, Stepping, HasVertex, kind_at, vertices_
 use Rattle.walking.specs.Held.{byte_is, held_part, held_same, extra_most}
 use Rattle.walking.specs.Walk.{entered_kept, step_made, Walking, walk_more, walk_passes}
 
+-- the follow list is as long in the same zone
+pub extra_same : (s : State) (kind k : ℕ) (vs us : List ℕ) → kind ≡ k → vs ≡ us → extra_of kind (arrangement_of s vs) ≡ extra_of k (arrangement_of s us)
+extra_same s kind k vs us e d = rw (e, d)
+
 -- an empty list names nobody
 numbered_empty : (list : List ℕ) (j : ℕ) → length list ≡ 0 → Numbered list j
 numbered_empty [] j h = numbered_none j

@@ -2,13 +2,16 @@
 ghost use Rattle.std.specs.Prelude.{◌≡◌, ◌<◌, get_or};
 ghost use Rattle.spec.specs.State.{arrangement_of};
 ghost use Rattle.theory.specs.Zones.Crossing.{extra_of};
-ghost use Rattle.walking.specs.Given.{HasZone, kind_at, vertices_at};
+ghost use Rattle.numbering.specs.Kind.{number_of};
+ghost use Rattle.walking.specs.OnMap.{ZoneOn, kind_on, vertices_on};
 
+use layout::MapTables;
 use motion::State;
+use numbering::{Vertex, ZoneKind};
 
 // How many bytes the follow list of a step into a zone has.
-fn list_length(kind: u8, state: &State, zone: &[u8]) -> usize
-    ensures { result ≡ extra_of kind (arrangement_of state.now zone.now) }
+fn list_length(kind: ZoneKind, state: &State, zone: &[u8]) -> usize
+    ensures { result ≡ extra_of (number_of kind) (arrangement_of state.now zone.now) }
 {
     if leeway::fills(kind, state, zone) {
         return zone.len();
@@ -17,20 +20,12 @@ fn list_length(kind: u8, state: &State, zone: &[u8]) -> usize
 }
 
 // How many bytes the follow list of a step to vertex v has.
-pub fn list_length_at<'a>(
-    kind: &'a [u8; 64],
-    first: &'a [u8; 64],
-    size: &'a [u8; 64],
-    listed: &'a [u8],
-    zone: &'a [u8; 128],
-    state: &State,
-    v: u8,
-) -> usize
-    requires { (v < 128) × HasZone first.now size.now listed.now (get_or zone.now v 0) }
-    ensures { result ≡ extra_of (kind_at kind.now zone.now v) (arrangement_of state.now (vertices_at first.now size.now listed.now zone.now v)) }
+pub fn list_length_at(map: &MapTables, state: &State, v: Vertex) -> usize
+    requires { (v.0 < 128) × ZoneOn map.now (get_or map.now.zone v.0 0) }
+    ensures { result ≡ extra_of (kind_on map.now v.0) (arrangement_of state.now (vertices_on map.now v.0)) }
 {
-    let z = zone[v as usize] as usize;
-    let a = first[z] as usize;
-    let e = a + size[z] as usize;
-    list_length(kind[z], state, &listed[a..e])
+    let z = map.zone_of(v);
+    let kind = map.kind_of(z);
+    let zone = map.vertices_of(z);
+    list_length(kind, state, zone)
 }

@@ -21,17 +21,17 @@ returns-then-over c =
     λ x.
     let a = c.args in
     let l = c.loop-i in
-    walked_part _ _ _ _ _ _ _ refl (walk_over x.map x.given.accepted x.k x.given.few (take x.len (payload a.file.now)) a.count (world a.state.now 0 a.out.now) l.i l.o (world l.state l.made l.out) (l.invariant.2 x) (search rules))
+    walked_part _ _ _ _ _ _ _ refl (walk_over x.map x.given.accepted x.k x.given.few (take x.len (payload a.file.now)) a.count (world a.state.now 0 a.out.now) l.i l.o (world l.state l.made l.out) (l.invariant.1 x) (search rules))
 
 pub list_length_at-e-requires : goal.list_length_at-e-requires
 list_length_at-e-requires c =
     let a = c.args in
     let x = c.requires.started in
     let l = c.loop-i in
-    let g = l.invariant.2 x in
+    let g = l.invariant.1 x in
     let h = c.loop-i-test.true in
-    let f = l.invariant.5 (next_room a.file.now a.count a.kind.now a.first.now a.size.now a.listed.now a.zone.now a.place.now (world a.state.now 0 a.out.now) x l.i l.o (world l.state l.made l.out) g h) in
-    let y = next_to a.file.now a.count a.kind.now a.first.now a.size.now a.listed.now a.zone.now a.place.now (world a.state.now 0 a.out.now) x l.i l.o (world l.state l.made l.out) g h l.four f in
+    let f = l.invariant.2 (next_room a.file.now a.count a.map.now.kind a.map.now.first a.map.now.size a.map.now.listed a.map.now.zone a.map.now.place (world a.state.now 0 a.out.now) x l.i l.o (world l.state l.made l.out) g h) in
+    let y = next_to a.file.now a.count a.map.now.kind a.map.now.first a.map.now.size a.map.now.listed a.map.now.zone a.map.now.place (world a.state.now 0 a.out.now) x l.i l.o (world l.state l.made l.out) g h l.four f in
     (y.below, y.here)
 
 pub overflow_add-next : goal.overflow_add-next
@@ -39,48 +39,48 @@ overflow_add-next c =
     let a = c.args in
     let x = c.requires.started in
     let l = c.loop-i in
-    let g = l.invariant.2 x in
+    let g = l.invariant.1 x in
     let h = c.loop-i-test.true in
-    let f = l.invariant.5 (next_room a.file.now a.count a.kind.now a.first.now a.size.now a.listed.now a.zone.now a.place.now (world a.state.now 0 a.out.now) x l.i l.o (world l.state l.made l.out) g h) in
+    let f = l.invariant.2 (next_room a.file.now a.count a.map.now.kind a.map.now.first a.map.now.size a.map.now.listed a.map.now.zone a.map.now.place (world a.state.now 0 a.out.now) x l.i l.o (world l.state l.made l.out) g h) in
     let e = c.list_length_at-e.result in
-    let q = c.list_length_at-e.ensures ∙ ap (extra_of (kind_at a.kind.now a.zone.now l.four.third)) (arrangement_alone l.robots l.vertices (vertices_at a.first.now a.size.now a.listed.now a.zone.now l.four.third)) in
-    omega (arith, next_end a.file.now a.count a.kind.now a.first.now a.size.now a.listed.now a.zone.now a.place.now (world a.state.now 0 a.out.now) x l.i l.o (world l.state l.made l.out) g h l.four f e q)
+    let q = c.list_length_at-e.ensures  in
+    omega (arith, next_end a.file.now a.count a.map.now.kind a.map.now.first a.map.now.size a.map.now.listed a.map.now.zone a.map.now.place (world a.state.now 0 a.out.now) x l.i l.o (world l.state l.made l.out) g h l.four f e q)
 
 pub overflow_add-next-in-loop-i : goal.overflow_add-next-in-loop-i
 overflow_add-next-in-loop-i c =
     let a = c.args in
     let x = c.requires.started in
     let l = c.loop-i in
-    let g = l.invariant.2 x in
+    let g = l.invariant.1 x in
     let h = c.loop-i-test.true in
-    let f = l.invariant.5 (next_room a.file.now a.count a.kind.now a.first.now a.size.now a.listed.now a.zone.now a.place.now (world a.state.now 0 a.out.now) x l.i l.o (world l.state l.made l.out) g h) in
+    let f = l.invariant.2 (next_room a.file.now a.count a.map.now.kind a.map.now.first a.map.now.size a.map.now.listed a.map.now.zone a.map.now.place (world a.state.now 0 a.out.now) x l.i l.o (world l.state l.made l.out) g h) in
     let e = c.list_length_at-e.result in
-    let q = c.list_length_at-e.ensures ∙ ap (extra_of (kind_at a.kind.now a.zone.now l.four.third)) (arrangement_alone l.robots l.vertices (vertices_at a.first.now a.size.now a.listed.now a.zone.now l.four.third)) in
-    omega (arith, next_end a.file.now a.count a.kind.now a.first.now a.size.now a.listed.now a.zone.now a.place.now (world a.state.now 0 a.out.now) x l.i l.o (world l.state l.made l.out) g h l.four f e q)
+    let q = c.list_length_at-e.ensures  in
+    omega (arith, next_end a.file.now a.count a.map.now.kind a.map.now.first a.map.now.size a.map.now.listed a.map.now.zone a.map.now.place (world a.state.now 0 a.out.now) x l.i l.o (world l.state l.made l.out) g h l.four f e q)
 
 pub payload_ahead-ahead-requires : goal.payload_ahead-ahead-requires
 payload_ahead-ahead-requires c =
     let a = c.args in
     let x = c.requires.started in
     let l = c.loop-i in
-    let g = l.invariant.2 x in
+    let g = l.invariant.1 x in
     let h = c.loop-i-test.true in
-    let f = l.invariant.5 (next_room a.file.now a.count a.kind.now a.first.now a.size.now a.listed.now a.zone.now a.place.now (world a.state.now 0 a.out.now) x l.i l.o (world l.state l.made l.out) g h) in
+    let f = l.invariant.2 (next_room a.file.now a.count a.map.now.kind a.map.now.first a.map.now.size a.map.now.listed a.map.now.zone a.map.now.place (world a.state.now 0 a.out.now) x l.i l.o (world l.state l.made l.out) g h) in
     let e = c.list_length_at-e.result in
-    let q = c.list_length_at-e.ensures ∙ ap (extra_of (kind_at a.kind.now a.zone.now l.four.third)) (arrangement_alone l.robots l.vertices (vertices_at a.first.now a.size.now a.listed.now a.zone.now l.four.third)) in
-    omega (arith, next_end a.file.now a.count a.kind.now a.first.now a.size.now a.listed.now a.zone.now a.place.now (world a.state.now 0 a.out.now) x l.i l.o (world l.state l.made l.out) g h l.four f e q)
+    let q = c.list_length_at-e.ensures  in
+    omega (arith, next_end a.file.now a.count a.map.now.kind a.map.now.first a.map.now.size a.map.now.listed a.map.now.zone a.map.now.place (world a.state.now 0 a.out.now) x l.i l.o (world l.state l.made l.out) g h l.four f e q)
 
 pub make_step-made-requires : goal.make_step-made-requires
 make_step-made-requires c =
     let a = c.args in
     let x = c.requires.started in
     let l = c.loop-i in
-    let g = l.invariant.2 x in
+    let g = l.invariant.1 x in
     let h = c.loop-i-test.true in
-    let f = l.invariant.5 (next_room a.file.now a.count a.kind.now a.first.now a.size.now a.listed.now a.zone.now a.place.now (world a.state.now 0 a.out.now) x l.i l.o (world l.state l.made l.out) g h) in
+    let f = l.invariant.2 (next_room a.file.now a.count a.map.now.kind a.map.now.first a.map.now.size a.map.now.listed a.map.now.zone a.map.now.place (world a.state.now 0 a.out.now) x l.i l.o (world l.state l.made l.out) g h) in
     let e = c.list_length_at-e.result in
-    let q = c.list_length_at-e.ensures ∙ ap (extra_of (kind_at a.kind.now a.zone.now l.four.third)) (arrangement_alone l.robots l.vertices (vertices_at a.first.now a.size.now a.listed.now a.zone.now l.four.third)) in
-    record { stepping = next_step a.file.now a.count a.kind.now a.first.now a.size.now a.listed.now a.zone.now a.place.now (world a.state.now 0 a.out.now) x l.i l.o (world l.state l.made l.out) g h l.four f e q; four_at = f }
+    let q = c.list_length_at-e.ensures  in
+    record { stepping = next_step a.file.now a.count a.map.now.kind a.map.now.first a.map.now.size a.map.now.listed a.map.now.zone a.map.now.place (world a.state.now 0 a.out.now) x l.i l.o (world l.state l.made l.out) g h l.four f e q; four_at = f }
 
 pub overflow_add-i : goal.overflow_add-i
 overflow_add-i c =
@@ -93,17 +93,17 @@ loop-i-preserved c =
     let a = c.args in
     let x = c.requires.started in
     let l = c.loop-i in
-    let g = l.invariant.2 x in
+    let g = l.invariant.1 x in
     let h = c.loop-i-test.true in
-    let f = l.invariant.5 (next_room a.file.now a.count a.kind.now a.first.now a.size.now a.listed.now a.zone.now a.place.now (world a.state.now 0 a.out.now) x l.i l.o (world l.state l.made l.out) g h) in
+    let f = l.invariant.2 (next_room a.file.now a.count a.map.now.kind a.map.now.first a.map.now.size a.map.now.listed a.map.now.zone a.map.now.place (world a.state.now 0 a.out.now) x l.i l.o (world l.state l.made l.out) g h) in
     let e = c.list_length_at-e.result in
-    let q = c.list_length_at-e.ensures ∙ ap (extra_of (kind_at a.kind.now a.zone.now l.four.third)) (arrangement_alone l.robots l.vertices (vertices_at a.first.now a.size.now a.listed.now a.zone.now l.four.third)) in (
+    let q = c.list_length_at-e.ensures  in (
       search rules,
       search rules,
       λ x.
-          let g = l.invariant.2 x in
-          next_made a.file.now a.count a.kind.now a.first.now a.size.now a.listed.now a.zone.now a.place.now (world a.state.now 0 a.out.now) x l.i l.o (world l.state l.made l.out) g h l.four f e q _
-          (c.make_step-made.ensures x.map x.n x.k x.len x.rows x.given g.consistent x.most (next_is a.file.now a.count a.kind.now a.first.now a.size.now a.listed.now a.zone.now a.place.now (world a.state.now 0 a.out.now) x l.i l.o (world l.state l.made l.out) g h l.four f e q)),
+          let g = l.invariant.1 x in
+          next_made a.file.now a.count a.map.now.kind a.map.now.first a.map.now.size a.map.now.listed a.map.now.zone a.map.now.place (world a.state.now 0 a.out.now) x l.i l.o (world l.state l.made l.out) g h l.four f e q _
+          (c.make_step-made.ensures x.map x.n x.k x.len x.rows x.given g.consistent x.most (next_is a.file.now a.count a.map.now.kind a.map.now.first a.map.now.size a.map.now.listed a.map.now.zone a.map.now.place (world a.state.now 0 a.out.now) x l.i l.o (world l.state l.made l.out) g h l.four f e q)),
       search rules,
       search rules,
       c.payload_ahead-ahead.ensures.0,
@@ -114,4 +114,4 @@ returns c =
     λ x.
     let a = c.args in
     let l = c.loop-i in
-    walked_whole _ _ _ _ _ _ _ refl l.o (walk_end x.map x.given.accepted x.k x.given.few (take x.len (payload a.file.now)) a.count (world a.state.now 0 a.out.now) l.i l.o (world l.state l.made l.out) (l.invariant.2 x) (omega arith))
+    walked_whole _ _ _ _ _ _ _ refl l.o (walk_end x.map x.given.accepted x.k x.given.few (take x.len (payload a.file.now)) a.count (world a.state.now 0 a.out.now) l.i l.o (world l.state l.made l.out) (l.invariant.1 x) (omega arith))

@@ -1,15 +1,25 @@
-use Rattle.walking.specs.Given.{part, kind_at}
+use Rattle.numbering.specs.Kind.{number_of}
 use Rattle.theory.specs.Zones.Crossing.{extra_of}
 use Rattle.spec.specs.State.{arrangement_of}
+use Rattle.layout.specs.Lists.{part_of}
 use lib.ListN.{get_or}
 use Prim.Native.Nat.{ℕ}
 use mathlib.Core.List.{List}
 use mathlib.Core.Path.{ap, ◌∙◌}
+use Rattle.stepping.specs.Steps.{extra_same}
 use Rattle.stepping.proofs.follow.list_length_at.Goals as goal
+
+pub kind_of-kind-requires : goal.kind_of-kind-requires
+kind_of-kind-requires c = rw (c.zone_of-z.ensures.below c.requires.0) c.requires.1.below
+
+pub vertices_of-zone-requires : goal.vertices_of-zone-requires
+vertices_of-zone-requires c =
+    let e = c.zone_of-z.ensures.below c.requires.0 in
+    record { below = rw e c.requires.1.below; inside = rw e c.requires.1.fits }
 
 pub returns : goal.returns
 returns c =
     let a = c.args in
-    let z : ℕ = get_or a.zone.now a.v 0 in
+    let e = c.zone_of-z.ensures.below c.requires.0 in
     c.list_length.ensures
-    ∙ ap (λ (vs : List ℕ). extra_of (kind_at a.kind.now a.zone.now a.v) (arrangement_of a.state.now vs)) (part (get_or a.first.now z 0) (get_or a.size.now z 0) a.listed.now)
+    ∙ extra_same a.state.now _ _ _ _ (c.kind_of-kind.ensures ∙ ap (λ (z : ℕ). get_or a.map.now.kind z 0) e) (c.vertices_of-zone.ensures ∙ ap (part_of a.map.now) e)

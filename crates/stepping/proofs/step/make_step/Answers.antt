@@ -8,24 +8,24 @@ use Rattle.stepping.proofs.step.make_step.Goals as goal
 pub overflow_add-from : goal.overflow_add-from
 overflow_add-from c =
     let a = c.args in
-    let x = stepping_room a.file.now a.o a.n a.kind.now a.first.now a.size.now a.listed.now a.zone.now a.place.now a.state.now c.requires.stepping in
+    let x = stepping_room a.file.now a.o a.n a.map.now.kind a.map.now.first a.map.now.size a.map.now.listed a.map.now.zone a.map.now.place a.state.now c.requires.stepping in
     search rules
 
 pub leave_at-left-requires : goal.leave_at-left-requires
 leave_at-left-requires c =
     let a = c.args in
-    record { has_vertex = stepping_from a.file.now a.o a.n a.kind.now a.first.now a.size.now a.listed.now a.zone.now a.place.now a.state.now c.requires.stepping a.four c.requires.four_at; u_value = stepping_leaves a.file.now a.o a.n a.kind.now a.first.now a.size.now a.listed.now a.zone.now a.place.now a.state.now c.requires.stepping a.four c.requires.four_at; robots_len = c.requires.stepping.consistent.rooms; proper = stepping_proper a.file.now a.o a.n a.kind.now a.first.now a.size.now a.listed.now a.zone.now a.place.now a.state.now c.requires.stepping a.four c.requires.four_at }
+    record { has_vertex = stepping_from a.file.now a.o a.n a.map.now.kind a.map.now.first a.map.now.size a.map.now.listed a.map.now.zone a.map.now.place a.state.now c.requires.stepping a.four c.requires.four_at; u_value = stepping_leaves a.file.now a.o a.n a.map.now.kind a.map.now.first a.map.now.size a.map.now.listed a.map.now.zone a.map.now.place a.state.now c.requires.stepping a.four c.requires.four_at; robots_len = c.requires.stepping.consistent.rooms; proper = stepping_proper a.file.now a.o a.n a.map.now.kind a.map.now.first a.map.now.size a.map.now.listed a.map.now.zone a.map.now.place a.state.now c.requires.stepping a.four c.requires.four_at }
 
 pub enter_at-room-requires : goal.enter_at-room-requires
 enter_at-room-requires c =
     let a = c.args in
     let w = (world a.state.now a.count a.out.now) in
-    record { n_bound = (stepping_short a.file.now a.o a.n a.kind.now a.first.now a.size.now a.listed.now a.zone.now a.place.now a.state.now c.requires.stepping a.four c.requires.four_at, stepping_room a.file.now a.o a.n a.kind.now a.first.now a.size.now a.listed.now a.zone.now a.place.now a.state.now c.requires.stepping); has_vertex = stepping_to a.file.now a.o a.n a.kind.now a.first.now a.size.now a.listed.now a.zone.now a.place.now a.state.now c.requires.stepping a.four c.requires.four_at; numbered = stepping_named a.file.now a.o a.n a.kind.now a.first.now a.size.now a.listed.now a.zone.now a.place.now a.state.now c.requires.stepping a.four c.requires.four_at; robots_len = (let e = c.requires.stepping.consistent.rooms in search rules); proper = stepping_room_proper a.file.now a.o a.n a.kind.now a.first.now a.size.now a.listed.now a.zone.now a.place.now a.state.now c.requires.stepping a.four c.requires.four_at w _ refl c.leave_at-left.ensures; n_value = stepping_extra a.file.now a.o a.n a.kind.now a.first.now a.size.now a.listed.now a.zone.now a.place.now a.state.now c.requires.stepping a.four c.requires.four_at w _ refl c.leave_at-left.ensures }
+    record { n_bound = (stepping_short a.file.now a.o a.n a.map.now.kind a.map.now.first a.map.now.size a.map.now.listed a.map.now.zone a.map.now.place a.state.now c.requires.stepping a.four c.requires.four_at, stepping_room a.file.now a.o a.n a.map.now.kind a.map.now.first a.map.now.size a.map.now.listed a.map.now.zone a.map.now.place a.state.now c.requires.stepping); has_vertex = stepping_to a.file.now a.o a.n a.map.now.kind a.map.now.first a.map.now.size a.map.now.listed a.map.now.zone a.map.now.place a.state.now c.requires.stepping a.four c.requires.four_at; numbered = stepping_named a.file.now a.o a.n a.map.now.kind a.map.now.first a.map.now.size a.map.now.listed a.map.now.zone a.map.now.place a.state.now c.requires.stepping a.four c.requires.four_at; robots_len = (let e = c.requires.stepping.consistent.rooms in search rules); proper = stepping_room_proper a.file.now a.o a.n a.map.now.kind a.map.now.first a.map.now.size a.map.now.listed a.map.now.zone a.map.now.place a.state.now c.requires.stepping a.four c.requires.four_at w _ refl c.leave_at-left.ensures; n_value = stepping_extra a.file.now a.o a.n a.map.now.kind a.map.now.first a.map.now.size a.map.now.listed a.map.now.zone a.map.now.place a.state.now c.requires.stepping a.four c.requires.four_at w _ refl c.leave_at-left.ensures }
 
 pub returns : goal.returns
 returns c =
     λ m points k len rows d h most t.
     let a = c.args in
-    let st : Stepping a.file.now a.o a.n a.kind.now a.first.now a.size.now a.listed.now a.zone.now a.place.now a.state.now =
+    let st : Stepping a.file.now a.o a.n a.map.now.kind a.map.now.first a.map.now.size a.map.now.listed a.map.now.zone a.map.now.place a.state.now =
     record { map = m; n = points; k = k; rows = rows; given = d; consistent = h; len = len; most = most; passes = t } in
-    stepping_made a.file.now a.o a.n a.kind.now a.first.now a.size.now a.listed.now a.zone.now a.place.now a.state.now st a.four c.requires.four_at _ _ refl c.leave_at-left.ensures _ _ c.enter_at-room.ensures c.make.ensures
+    stepping_made a.file.now a.o a.n a.map.now.kind a.map.now.first a.map.now.size a.map.now.listed a.map.now.zone a.map.now.place a.state.now st a.four c.requires.four_at _ _ refl c.leave_at-left.ensures _ _ c.enter_at-room.ensures c.make.ensures

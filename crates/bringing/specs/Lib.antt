@@ -1,0 +1,2 @@
+-- The moves of a zone to its goals, by the map's tables.
+pub mod Zones
