@@ -71,13 +71,16 @@ run_prefix s (v ∷ vs) = at (ℕ_discrete (robot_on s v) 255) (run_prefix s vs)
     at (yes e) i = rw (eq-eqb _ _ e, cell_none e) refl
     at (no n) i = rw (ne_eqb _ _ n, cell_of_lem n) (omega (arith, i))
 
+-- the zone's vertices read from place p on have the ring's arrangement read from there on
+pub frame_arrangement : (s : State) (vs : List ℕ) (p : ℕ) → arrangement_of s (drop p vs ++ take p vs) ≡ frame p (arrangement_of s vs)
+unfolding frame arrangement_of
+frame_arrangement s vs p =
+    map-append (λ v. cell_of (robot_on s v)) (drop p vs) (take p vs)
+    ∙ ap₂ (λ (x y : Arrangement). x ++ y) (sym (drop-map (λ v. cell_of (robot_on s v)) p vs)) (sym (take-map (λ v. cell_of (robot_on s v)) p vs))
+
 -- the run at place p, counted over the zone's vertices from that place on
 pub run_counted : (s : State) (vs : List ℕ) (p : ℕ) → prefix_len (λ v. not (eqb (robot_on s v) 255)) (drop p vs ++ take p vs) ≡ length (run_at s vs p)
-unfolding frame arrangement_of
-run_counted s vs p =
-    run_prefix s (drop p vs ++ take p vs)
-    ∙ ap (λ (f : Arrangement). length (run f))
-    (map-append (λ v. cell_of (robot_on s v)) (drop p vs) (take p vs) ∙ ap₂ (λ (x y : Arrangement). x ++ y) (sym (drop-map _ p vs)) (sym (take-map _ p vs)))
+run_counted s vs p = run_prefix s (drop p vs ++ take p vs) ∙ ap (λ (f : Arrangement). length (run f)) (frame_arrangement s vs p)
 
 module _ (s : State) (vs : List ℕ) (p : ℕ) (h : p < length vs) where
   -- the ring read from p on is as long as the zone

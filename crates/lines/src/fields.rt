@@ -17,12 +17,10 @@ pub fn put_word(text: &mut [u8], at: usize, word: &[u8]) -> usize
     requires { (at ≤ 4294967296) × (length word.now ≤ 4294967296) }
     ensures { Put text.old at word.now text.new result }
 {
-    let mut i: usize = 0;
-    while i < word.len() {
-        put(text, at + i, word[i]);
-        i += 1;
+    for (i, b) in word.iter().enumerate() {
+        put(text, at + i, *b);
     }
-    at + i
+    at + word.len()
 }
 
 // Puts a number in decimal.
