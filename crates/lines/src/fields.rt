@@ -1,4 +1,6 @@
 // Text put into a buffer from a place on; what is past the buffer's end is left out.
+// Numbers go by no `write!`, whose contract lets it fail, since these functions cannot. `text` and `at` are no struct, since each
+// method of one that lends the buffer would also have to promise that it still holds the same buffer.
 ghost use Rattle.std.specs.Prelude.{◌≡◌, ◌+◌, ◌≤◌, length, set};
 ghost use Rattle.lines.specs.Text.{decimal, Put};
 ghost use Rattle.lines.specs.Listing.{field};

@@ -253,10 +253,6 @@ pub opened_joined : (vs : List ℕ) (j : ℕ) → j < length vs → take (length
 unfolding opened
 opened_joined vs j h = ap (λ (l : List ℕ). l ++ take j vs) (take_all (length vs - (j + 1)) (drop (j + 1) vs) (omega (arith, length-drop (j + 1) vs)) ∙ ap (λ (i : ℕ). drop i vs) (add-one j))
 
--- one vertex fewer than the ring has
-pub opened_count : (vs os : List ℕ) (j : ℕ) → j < length vs → os ≡ opened j vs → length vs - 1 ≡ length os
-opened_count vs os j h e = omega (arith, ap length e, length_opened j vs h)
-
 -- `lowest` is the name of a function too
 abbrev pub lowest_cell : List ℕ → ℕ
 lowest_cell = lowest

@@ -18,7 +18,7 @@ use Rattle.spec.specs.Arrangement.{Arrangement, order, seek, full}
 use Rattle.spec.specs.State.{State, cell_of, robot_on, arrangement_of}
 use Rattle.spec.specs.Ring.{frame, turned, ring_can_end}
 use Rattle.theory.specs.Basics.Lists.{index_here, index_further}
-use Rattle.theory.specs.Maps.Cells.{cell_of_lem, cell_none, cell_robot, cell_empty}
+use Rattle.theory.specs.Maps.Cells.{cell_of_lem, cell_none, cell_injective}
 use Rattle.theory.specs.Zones.Arrangements.{order_append}
 use Rattle.cells.specs.Cells.{seek_same, seek_other}
 use Rattle.circle.specs.Runs.{frame_arrangement}
@@ -52,14 +52,6 @@ same_none a = go (order a)
 
 -- ---- arrangements, compared place by place
 
--- cells are alike as their robots are
-cell_same : (x y : ℕ) → cell_of x ≡ cell_of y → x ≡ y
-cell_same x y e = go (ℕ_discrete y 255)
-  where
-    go : Dec (y ≡ 255) → x ≡ y
-    go (yes d) = cell_empty x (e ∙ cell_none d) ∙ sym d
-    go (no d) = (cell_robot x y (e ∙ cell_of_lem d)).0
-
 -- the same robots on the same places: the cells are the same
 pub cells_alike : (s t : State) (vs : List ℕ) → list_all (λ v. eqb (robot_on s v) (robot_on t v)) vs ≡ same_list (arrangement_of s vs) (arrangement_of t vs)
 unfolding arrangement_of
@@ -71,7 +63,7 @@ cells_alike s t (v ∷ vs) = at (ℕ_discrete (robot_on s v) (robot_on t v)) (ce
     at (yes e) i = rw (eq-eqb _ _ e) (i ∙ same_head (cell_of (robot_on s v)) (cell_of (robot_on t v)) (arrangement_of s vs) (arrangement_of t vs) (ap cell_of e))
     at (no n) i =
         rw (ne_eqb _ _ n)
-        (other_head (cell_of (robot_on s v)) (cell_of (robot_on t v)) (arrangement_of s vs) (arrangement_of t vs) (λ q. n (cell_same (robot_on s v) (robot_on t v) q)))
+        (other_head (cell_of (robot_on s v)) (cell_of (robot_on t v)) (arrangement_of s vs) (arrangement_of t vs) (λ q. n (cell_injective (robot_on s v) (robot_on t v) q)))
 
 -- ---- the robots of a zone, in listed order
 

@@ -1,17 +1,16 @@
 -- Entering a ring: the robot behind a place, and the pushes until the named one is there.
-use Rattle.std.specs.Prelude.{◌≡◌, refl, ◌≢◌, Bool, true, false, ℕ, zero, suc, ◌+◌, ◌-◌, ◌<◌, List, [], ◌∷◌, ◌++◌, length, get_or, take, T, eqb}
+use Rattle.std.specs.Prelude.{◌≡◌, refl, ◌≢◌, Bool, true, false, ℕ, zero, suc, ◌+◌, ◌-◌, ◌<◌, List, [], ◌∷◌, ◌++◌, length, take, T, eqb}
 use Rattle.std.proofs.Math.Path.{ap, sym}
 use Rattle.std.proofs.Common.{◌∙◌, add-one, arith, drop-cons, take-suc, take_all, eq-eqb, ne_eqb}
 use Rattle.std.proofs.Math.Decide.{ℕ_discrete}
 use Rattle.spec.specs.Outcome.{member}
 use Rattle.spec.specs.Arrangement.{Arrangement, cell, order, last_named}
 use Rattle.spec.specs.Ring.{wrap, frame, opened, ring_behind}
-use Rattle.spec.specs.State.{State, cell_of, robot_on, arrangement_of}
+use Rattle.spec.specs.State.{State, cell_of, arrangement_of}
 use Rattle.theory.specs.Basics.Lists.{in_head, in_tail}
 use Rattle.theory.specs.Maps.Cells.{cell_of_lem, cell_none}
 use Rattle.theory.specs.Zones.Ring.Opened.{length_opened}
-use Rattle.motion.specs.Across.{arrangement_length, arrangement_at}
-use Rattle.circle.specs.Places.{wrap_under}
+use Rattle.motion.specs.Across.{arrangement_length}
 use Rattle.circle.specs.Runs.{frame_at}
 
 -- the ring read from place j on: what stands there, then the other places
@@ -74,12 +73,11 @@ module _ (s : State) (vs : List ℕ) (j : ℕ) (h : j < length vs) where
   inside : j < length (arrangement_of s vs)
   inside = omega (arith, arrangement_length s vs)
 
-  -- who stands on place k of the opened ring
-  opened_robot : (k : ℕ) → k + 1 < length vs → cell (opened j (arrangement_of s vs)) k ≡ cell_of (robot_on s (get_or vs (wrap (length vs) (j + (k + 1))) 0))
-  opened_robot k l =
+  -- what stands on place k of the opened ring
+  opened_cell : (k : ℕ) → k + 1 < length vs → cell (opened j (arrangement_of s vs)) k ≡ cell (arrangement_of s vs) (wrap (length vs) (j + (k + 1)))
+  opened_cell k l =
       opened_at j (arrangement_of s vs) k inside (omega (arith, arrangement_length s vs))
       ∙ ap (λ (m : ℕ). cell (arrangement_of s vs) (wrap m (j + (k + 1)))) (arrangement_length s vs)
-      ∙ arrangement_at s vs (wrap (length vs) (j + (k + 1))) (wrap_under (length vs) j (k + 1) h (omega arith))
 
   -- the opened ring has one place fewer
   opened_size : suc (length (opened j (arrangement_of s vs))) ≡ length vs
@@ -91,20 +89,20 @@ module _ (s : State) (vs : List ℕ) (j : ℕ) (h : j < length vs) where
   walk_all = ap last_named (take_all (length vs - 1) (opened j (arrangement_of s vs)) (omega (arith, opened_size)))
 
   -- an empty place is passed
-  pub walk_free : (k x : ℕ) → k + 1 < length vs → x ≡ robot_on s (get_or vs (wrap (length vs) (j + (k + 1))) 0) → x ≡ 255
+  pub walk_free : (k x : ℕ) → k + 1 < length vs → cell_of x ≡ cell (arrangement_of s vs) (wrap (length vs) (j + (k + 1))) → x ≡ 255
       → last_named (take k (opened j (arrangement_of s vs))) ≡ last_named (take (k + 1) (opened j (arrangement_of s vs)))
   walk_free k x l e n =
       let f : Arrangement = opened j (arrangement_of s vs) in
-      let d : cell f k ≡ 0 = opened_robot k l ∙ ap cell_of (sym e) ∙ cell_none n in
+      let d : cell f k ≡ 0 = opened_cell k l ∙ sym e ∙ cell_none n in
       sym (ap (λ (i : ℕ). last_named (take i f)) (add-one k) ∙ ap last_named (take-suc f k 0 (omega (arith, opened_size)) ∙ ap (λ (y : ℕ). take k f ++ (y ∷ [])) d)
       ∙ last_free_lem (take k f))
 
   -- at a robot the walk ends
-  pub walk_taken : (k x : ℕ) → k + 1 < length vs → x ≡ robot_on s (get_or vs (wrap (length vs) (j + (k + 1))) 0) → x ≢ 255
+  pub walk_taken : (k x : ℕ) → k + 1 < length vs → cell_of x ≡ cell (arrangement_of s vs) (wrap (length vs) (j + (k + 1))) → x ≢ 255
       → x ≡ last_named (take (k + 1) (opened j (arrangement_of s vs)))
   walk_taken k x l e n =
       let f : Arrangement = opened j (arrangement_of s vs) in
-      let d : cell f k ≡ suc x = opened_robot k l ∙ ap cell_of (sym e) ∙ cell_of_lem n in
+      let d : cell f k ≡ suc x = opened_cell k l ∙ sym e ∙ cell_of_lem n in
       sym (ap (λ (i : ℕ). last_named (take i f)) (add-one k) ∙ ap last_named (take-suc f k 0 (omega (arith, opened_size)) ∙ ap (λ (y : ℕ). take k f ++ (y ∷ [])) d)
       ∙ last_taken (take k f) x n)
 

@@ -1,6 +1,6 @@
 -- Entering a ring: pushes until the named robot is behind the place and the place is empty.
-use Rattle.std.specs.Prelude.{◌≡◌, refl, ◌≢◌, Bool, true, false, ℕ, zero, suc, ◌+◌, ◌*◌, ◌<◌, ◌≤◌, List, [], ◌∷◌, ◌++◌, map, length, get_or, take, drop, eqb}
-use Rattle.std.proofs.Common.{ap, ap₂, sym, ◌∙◌, arith, mul-le-mul, take-append-drop, eq-eqb, ne_eqb}
+use Rattle.std.specs.Prelude.{◌≡◌, refl, ◌≢◌, Bool, true, false, ℕ, zero, suc, ◌+◌, ◌*◌, ◌<◌, List, [], ◌∷◌, ◌++◌, map, length, get_or, take, drop, eqb}
+use Rattle.std.proofs.Common.{ap, ap₂, sym, ◌∙◌, arith, take-append-drop, eq-eqb, ne_eqb}
 use Rattle.std.proofs.Math.Decide.{ℕ_discrete, dec_lt}
 use Rattle.std.proofs.Math.ListN.{get_or-eq_default}
 use Rattle.spec.specs.Outcome.{◌and◌}
@@ -191,25 +191,25 @@ turn_rest w s vs j named n h e =
 
 -- ---- where the push begins, as the code finds it
 
-module _ (s : State) (vs : List ℕ) (j named : ℕ) (h : j < length vs) where
+module _ (s : State) (vs : List ℕ) (j named : ℕ) where
   -- at the place itself, where it is taken
-  pub begins_taken : (x : ℕ) → x ≡ robot_on s (get_or vs j 0) → x ≢ 255 → j ≡ turn_at (arrangement_of s vs) j named
+  pub begins_taken : (x : ℕ) → cell_of x ≡ cell (arrangement_of s vs) j → x ≢ 255 → j ≡ turn_at (arrangement_of s vs) j named
   begins_taken x e n =
-      let t = turn_taken (arrangement_of s vs) j named x (arrangement_at s vs j h ∙ ap cell_of (sym e) ∙ cell_of_lem n) in
+      let t = turn_taken (arrangement_of s vs) j named x (sym e ∙ cell_of_lem n) in
       sym (turn_shut (arrangement_of s vs) j named t.0 ∙ t.1)
 
   -- nowhere, where it is empty and the named robot behind it
-  pub begins_nowhere : (x b : ℕ) → x ≡ robot_on s (get_or vs j 0) → x ≡ 255 → b ≡ ring_behind (arrangement_of s vs) j → b ≡ named
+  pub begins_nowhere : (x b : ℕ) → cell_of x ≡ cell (arrangement_of s vs) j → x ≡ 255 → b ≡ ring_behind (arrangement_of s vs) j → b ≡ named
       → length vs ≡ turn_at (arrangement_of s vs) j named
   begins_nowhere x b e n d q =
-      let t = turn_free (arrangement_of s vs) j named (arrangement_at s vs j h ∙ ap cell_of (sym e) ∙ cell_none n) in
+      let t = turn_free (arrangement_of s vs) j named (sym e ∙ cell_none n) in
       sym (turn_open (arrangement_of s vs) j named (t.0 ∙ eq-eqb _ _ (sym d ∙ q)) ∙ arrangement_length s vs)
 
   -- at the robot behind, where it is another one
-  pub begins_behind : (x b : ℕ) → x ≡ robot_on s (get_or vs j 0) → x ≡ 255 → b ≡ ring_behind (arrangement_of s vs) j → b ≢ named
+  pub begins_behind : (x b : ℕ) → cell_of x ≡ cell (arrangement_of s vs) j → x ≡ 255 → b ≡ ring_behind (arrangement_of s vs) j → b ≢ named
       → seek (suc b) (arrangement_of s vs) ≡ turn_at (arrangement_of s vs) j named
   begins_behind x b e n d q =
-      let t = turn_free (arrangement_of s vs) j named (arrangement_at s vs j h ∙ ap cell_of (sym e) ∙ cell_none n) in
+      let t = turn_free (arrangement_of s vs) j named (sym e ∙ cell_none n) in
       ap (λ (y : ℕ). seek (suc y) (arrangement_of s vs)) d
       ∙ sym (turn_shut (arrangement_of s vs) j named (t.0 ∙ ne_eqb _ _ (λ z. q (d ∙ z))) ∙ t.1)
 

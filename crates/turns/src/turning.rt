@@ -7,9 +7,8 @@ ghost use Rattle.circle.specs.Pushes.{pushed};
 ghost use Rattle.turns.specs.Turns.{turn_at};
 ghost use Rattle.turns.specs.Steps.{goes_on, Alone};
 
-use cells::{place_of, vertex_at};
+use cells::{place_of, robot_at, vertex_at};
 use circle::places::{around, next};
-use circle::reading::robot_at;
 use motion::State;
 use numbering::Robot;
 

@@ -3,10 +3,10 @@ use native.Mathlib.Omega.{arith}
 use Rattle.std.proofs.Common.{tests}
 use Prim.Native.Nat.{ℕ, ◌+◌, ◌-◌, ◌<◌}
 use mathlib.Core.Path.{◌≡◌, ap, sym, ◌∙◌}
-use lib.ListN.{length, get_or, take}
-use Rattle.spec.specs.Arrangement.{last_named}
+use lib.ListN.{length, take}
+use Rattle.spec.specs.Arrangement.{cell, last_named}
 use Rattle.spec.specs.Ring.{wrap, opened}
-use Rattle.spec.specs.State.{robot_on, arrangement_of}
+use Rattle.spec.specs.State.{cell_of, arrangement_of}
 use Rattle.turns.specs.Entry.{walk_all, walk_free, walk_taken, walk_over}
 use Rattle.turns.proofs.turning.behind.Goals as goal
 
@@ -20,7 +20,7 @@ returns-then-ne c =
     let k = c.loop-k.k - 1 - 1 in
     let l : k + 1 < length z = omega arith in
     let n : k + 1 ≡ c.loop-k.k - 1 = omega arith in
-    let r : c.robot_at-r.result.0 ≡ robot_on a.state.now (get_or z (wrap (length z) (a.j + (k + 1))) 0) = c.robot_at-r.ensures ∙ ap (λ (i : ℕ). robot_on a.state.now (get_or z i 0)) (c.around.ensures ∙ ap (λ (i : ℕ). wrap (length z) (a.j + i)) (sym n)) in
+    let r : cell_of c.robot_at-r.result.0 ≡ cell (arrangement_of a.state.now z) (wrap (length z) (a.j + (k + 1))) = c.robot_at-r.ensures ∙ ap (cell (arrangement_of a.state.now z)) (c.around.ensures ∙ ap (λ (i : ℕ). wrap (length z) (a.j + i)) (sym n)) in
     walk_taken a.state.now z a.j (search rules) k c.robot_at-r.result.0 l r (search (rules, tests))
     ∙ ap (λ (i : ℕ). last_named (take i (opened a.j (arrangement_of a.state.now z)))) n ∙ c.loop-k.invariant
 
@@ -31,7 +31,7 @@ loop-k-preserved c =
     let k = c.loop-k.k - 1 - 1 in
     let l : k + 1 < length z = omega arith in
     let n : k + 1 ≡ c.loop-k.k - 1 = omega arith in
-    let r : c.robot_at-r.result.0 ≡ robot_on a.state.now (get_or z (wrap (length z) (a.j + (k + 1))) 0) = c.robot_at-r.ensures ∙ ap (λ (i : ℕ). robot_on a.state.now (get_or z i 0)) (c.around.ensures ∙ ap (λ (i : ℕ). wrap (length z) (a.j + i)) (sym n)) in
+    let r : cell_of c.robot_at-r.result.0 ≡ cell (arrangement_of a.state.now z) (wrap (length z) (a.j + (k + 1))) = c.robot_at-r.ensures ∙ ap (cell (arrangement_of a.state.now z)) (c.around.ensures ∙ ap (λ (i : ℕ). wrap (length z) (a.j + i)) (sym n)) in
     walk_free a.state.now z a.j (search rules) k c.robot_at-r.result.0 l r (search (rules, tests))
     ∙ ap (λ (i : ℕ). last_named (take i (opened a.j (arrangement_of a.state.now z)))) n ∙ c.loop-k.invariant
 

@@ -10,7 +10,7 @@ use Rattle.turns.proofs.turning.turn_place.Goals.{then-eq-via-then-eq, then-eq-v
 pub returns-then-ne : goal.returns-then-ne
 returns-then-ne c =
     let a = c.args in
-    (search rules, begins_taken a.state.now a.zone.now a.j a.named.0 (search rules) c.robot_at.result.0 c.robot_at.ensures (search (rules, tests)))
+    (search rules, begins_taken a.state.now a.zone.now a.j a.named.0 c.robot_at.result.0 c.robot_at.ensures (search (rules, tests)))
 
 pub returns-then-eq : goal.returns-then-eq
 returns-then-eq c =
@@ -18,11 +18,11 @@ returns-then-eq c =
     let x = c.robot_at.result.0 in
     let b = c.behind-b.result.0 in
     elim c.then-eq.branch [
-      | then-eq-via-then-eq w ↦ sym (begins_nowhere a.state.now a.zone.now a.j a.named.0 (search rules) x b c.robot_at.ensures (search (rules, tests)) c.behind-b.ensures (search (rules, tests)))
+      | then-eq-via-then-eq w ↦ sym (begins_nowhere a.state.now a.zone.now a.j a.named.0 x b c.robot_at.ensures (search (rules, tests)) c.behind-b.ensures (search (rules, tests)))
       | then-eq-via-else-eq+then-eq-2 w ↦
           sym
           (seek_nobody a.state.now a.zone.now b (search (rules, tests))
-          ∙ begins_behind a.state.now a.zone.now a.j a.named.0 (search rules) x b c.robot_at.ensures (search (rules, tests)) c.behind-b.ensures (search (rules, tests)))
+          ∙ begins_behind a.state.now a.zone.now a.j a.named.0 x b c.robot_at.ensures (search (rules, tests)) c.behind-b.ensures (search (rules, tests)))
     ]
 
 pub returns : goal.returns
@@ -32,5 +32,5 @@ returns c =
     let b = c.behind-b.result.0 in (
       omega (arith, c.place_of.ensures, behind_inside a.state.now a.zone.now a.j (search rules) b c.behind-b.ensures (search (rules, tests))),
       c.place_of.ensures
-          ∙ begins_behind a.state.now a.zone.now a.j a.named.0 (search rules) x b c.robot_at.ensures (search (rules, tests)) c.behind-b.ensures (search (rules, tests)),
+          ∙ begins_behind a.state.now a.zone.now a.j a.named.0 x b c.robot_at.ensures (search (rules, tests)) c.behind-b.ensures (search (rules, tests)),
     )
