@@ -112,7 +112,13 @@ fn clique_ok(rows: &[[u64; 2]; 128], vertices: &[u8]) -> bool
 }
 
 // Is place j of a stack, hall or ring joined to the place before it, to the first as the kind has it, and to none between?
-fn row_ok(rows: &[[u64; 2]; 128], vertices: &[u8], kind: ZoneKind, j: usize, between: Vertices) -> bool
+fn row_ok(
+    rows: &[[u64; 2]; 128],
+    vertices: &[u8],
+    kind: ZoneKind,
+    j: usize,
+    between: Vertices,
+) -> bool
     requires fact { (number_of kind ≡ 3 → ⊥) × (0 < j) × (j < length vertices.now) × (length vertices.now ≤ 128) }
     requires between { Between rows.now vertices.now between.low between.high j }
     ensures { result ≡ row_test rows.now vertices.now (number_of kind) j }

@@ -40,7 +40,7 @@ overflow_add-next c =
     let h = c.loop-i-test.true in
     let f = l.invariant.1 (next_room a.file.now a.count a.map.now.kind a.map.now.first a.map.now.size a.map.now.listed a.map.now.zone a.map.now.place (world a.state.now 0 a.out.now) x l.i l.o (world l.state l.made l.out) g h) in
     let e = c.list_length_at-e.result in
-    let q = c.list_length_at-e.ensures  in
+    let q = c.list_length_at-e.ensures in
     omega (arith, next_end a.file.now a.count a.map.now.kind a.map.now.first a.map.now.size a.map.now.listed a.map.now.zone a.map.now.place (world a.state.now 0 a.out.now) x l.i l.o (world l.state l.made l.out) g h l.four f e q)
 
 pub overflow_add-next-in-loop-i : goal.overflow_add-next-in-loop-i
@@ -52,7 +52,7 @@ overflow_add-next-in-loop-i c =
     let h = c.loop-i-test.true in
     let f = l.invariant.1 (next_room a.file.now a.count a.map.now.kind a.map.now.first a.map.now.size a.map.now.listed a.map.now.zone a.map.now.place (world a.state.now 0 a.out.now) x l.i l.o (world l.state l.made l.out) g h) in
     let e = c.list_length_at-e.result in
-    let q = c.list_length_at-e.ensures  in
+    let q = c.list_length_at-e.ensures in
     omega (arith, next_end a.file.now a.count a.map.now.kind a.map.now.first a.map.now.size a.map.now.listed a.map.now.zone a.map.now.place (world a.state.now 0 a.out.now) x l.i l.o (world l.state l.made l.out) g h l.four f e q)
 
 pub payload_ahead-ahead-requires : goal.payload_ahead-ahead-requires
@@ -64,7 +64,7 @@ payload_ahead-ahead-requires c =
     let h = c.loop-i-test.true in
     let f = l.invariant.1 (next_room a.file.now a.count a.map.now.kind a.map.now.first a.map.now.size a.map.now.listed a.map.now.zone a.map.now.place (world a.state.now 0 a.out.now) x l.i l.o (world l.state l.made l.out) g h) in
     let e = c.list_length_at-e.result in
-    let q = c.list_length_at-e.ensures  in
+    let q = c.list_length_at-e.ensures in
     omega (arith, next_end a.file.now a.count a.map.now.kind a.map.now.first a.map.now.size a.map.now.listed a.map.now.zone a.map.now.place (world a.state.now 0 a.out.now) x l.i l.o (world l.state l.made l.out) g h l.four f e q)
 
 pub make_step-made-requires : goal.make_step-made-requires
@@ -76,7 +76,7 @@ make_step-made-requires c =
     let h = c.loop-i-test.true in
     let f = l.invariant.1 (next_room a.file.now a.count a.map.now.kind a.map.now.first a.map.now.size a.map.now.listed a.map.now.zone a.map.now.place (world a.state.now 0 a.out.now) x l.i l.o (world l.state l.made l.out) g h) in
     let e = c.list_length_at-e.result in
-    let q = c.list_length_at-e.ensures  in
+    let q = c.list_length_at-e.ensures in
     record { stepping = next_step a.file.now a.count a.map.now.kind a.map.now.first a.map.now.size a.map.now.listed a.map.now.zone a.map.now.place (world a.state.now 0 a.out.now) x l.i l.o (world l.state l.made l.out) g h l.four f e q; four_at = f }
 
 pub loop-i-preserved : goal.loop-i-preserved
