@@ -1,5 +1,7 @@
 -- What is said of lists on a map in tables, by the one value that holds the tables and the one that holds the lists.
 use Rattle.std.specs.Prelude.{◌≡◌, ℕ, List, get_or, Result}
+use Rattle.spec.specs.Layout.{Map}
+use Rattle.spec.specs.State.{State}
 use Rattle.numbering.specs.Kind.{number_of}
 use Rattle.layout.specs.Lists.{MapLists}
 use Rattle.walking.specs.OnMap.{kind_on, place_on}
@@ -7,8 +9,8 @@ use Rattle.testing.specs.declared.Lists.{Lists}
 use Rattle.testing.specs.declared.Spot.{Spot}
 use Rattle.testing.specs.declared.Step.{Step}
 use Rattle.testing.specs.declared.StepFault.{StepFault}
-use Rattle.testing.specs.Held.{list_in}
-use Rattle.testing.specs.Steps.{Ready, HasList, Fits, StepTested}
+use Rattle.testing.specs.Held.{list_in, Held}
+use Rattle.testing.specs.Steps.{Ready, HasList, Fits, Chosen, StepTested}
 
 -- the size of the zone of vertex v; how many robots it has, and its list
 abbrev pub size_on : MapLists → ℕ → ℕ
@@ -43,3 +45,11 @@ ReadyOn t k rows l = Ready t.vertices k t.kind t.first t.size t.listed t.zone t.
 -- the tests of the step at offset o of the payload in the file f
 abbrev pub StepTestedOn : List ℕ → ℕ → ℕ → MapLists → ℕ → List (List ℕ) → Lists → Result Step StepFault → Type 0
 StepTestedOn f len o t k rows l q = StepTested f len o t.vertices k t.kind t.first t.size t.listed t.zone t.place rows l.counts l.cells q
+
+-- every zone's list stands for its configuration in state s of the map m
+abbrev pub HeldOn : Map → MapLists → Lists → State → Type 0
+HeldOn m t l s = Held m t.first l.counts l.cells s
+
+-- the step x at offset o of the payload in the file f: where its robot stands in the list that it leaves, and comes into the other
+abbrev pub ChosenOn : List ℕ → ℕ → MapLists → Lists → Step → Type 0
+ChosenOn f o t l x = Chosen f o t.kind t.first t.zone l.counts l.cells x
