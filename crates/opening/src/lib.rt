@@ -52,13 +52,13 @@ pub fn read_yard(
     })
 }
 
-// Reads map, placing and move list, and checks the moves.
-pub fn open_list(map: &[u8], placed: &[u8], moves: &[u8]) -> Result<Opened, Refusal>
+// Reads map, placing and move list, where the map's blocks have passed, and checks the moves.
+fn open_filed(map: &[u8], len: usize, placed: &[u8], moves: &[u8]) -> Result<Opened, Refusal>
+    requires { MapFiled map.now len }
     ensures { OpenedIs map.now placed.now moves.now result }
 {
-    let filed = check_map(map)?;
     let mut rows = [[0u64; 2]; 128];
-    let yard = read_yard(map, filed, placed, &mut rows)?;
+    let yard = read_yard(map, len, placed, &mut rows)?;
     let len = check_file(moves, 4, 128).map_err(Refusal::ListFile)?;
     let n = yard.map.vertices();
     let PlacingTables {
@@ -68,4 +68,12 @@ pub fn open_list(map: &[u8], placed: &[u8], moves: &[u8]) -> Result<Opened, Refu
     } = yard.placing;
     let count = check_moves(moves, len, &rows, n, starts, goals, robots as usize)?;
     Ok(Opened { yard, count })
+}
+
+// The same of any map; for one that is refused for its blocks no table is made ready.
+pub fn open_list(map: &[u8], placed: &[u8], moves: &[u8]) -> Result<Opened, Refusal>
+    ensures { OpenedIs map.now placed.now moves.now result }
+{
+    let filed = check_map(map)?;
+    open_filed(map, filed, placed, moves)
 }

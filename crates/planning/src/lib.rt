@@ -2,6 +2,7 @@
 #![tactic(auto)]
 
 ghost use Rattle.std.specs.Prelude.{◌≡◌};
+ghost use Rattle.opening.specs.Opened.{MapFiled};
 ghost use Rattle.planning.specs.Planned.{ClearedIs, JudgedIs, PlannedIs};
 
 use answers::Undelivered;
@@ -12,13 +13,13 @@ use placing::PlacingTables;
 use refusals::Refusal;
 use resolve::resolve_plan;
 
-// Reads map, placing and plan in document 01's order of files, and judges the plan: the map and placing of one that is cleared.
-fn read_cleared(map: &[u8], placed: &[u8], plan: &[u8]) -> Result<Yard, Refusal>
+// Reads map, placing and plan, where the map's blocks have passed, and judges the plan: the map and placing of one that is cleared.
+fn read_filed(map: &[u8], len: usize, placed: &[u8], plan: &[u8]) -> Result<Yard, Refusal>
+    requires { MapFiled map.now len }
     ensures { ClearedIs map.now placed.now plan.now result }
 {
-    let filed = check_map(map)?;
     let mut rows = [[0u64; 2]; 128];
-    let yard = read_yard(map, filed, placed, &mut rows)?;
+    let yard = read_yard(map, len, placed, &mut rows)?;
     let len = check_file(plan, 3, 64).map_err(Refusal::PlanFile)?;
     let PlacingTables {
         robots,
@@ -27,6 +28,14 @@ fn read_cleared(map: &[u8], placed: &[u8], plan: &[u8]) -> Result<Yard, Refusal>
     } = yard.placing;
     judge_plan(plan, len, &yard.map, &rows, starts, goals, robots as usize)?;
     Ok(yard)
+}
+
+// The same of any map, in document 01's order of files; for one that is refused for its blocks no table is made ready.
+fn read_cleared(map: &[u8], placed: &[u8], plan: &[u8]) -> Result<Yard, Refusal>
+    ensures { ClearedIs map.now placed.now plan.now result }
+{
+    let filed = check_map(map)?;
+    read_filed(map, filed, placed, plan)
 }
 
 // Judges a plan with its map and placing.

@@ -1,4 +1,4 @@
-use Rattle.std.proofs.Common.{◌≡◌, ◌∙◌, false, true, ◌||◌, eqb, get_or, set, length-set, rules, tests}
+use Rattle.std.proofs.Common.{◌≡◌, ◌∙◌, false, true, ap, get_or, set, length-set, rules, tests}
 use Rattle.std.proofs.lemmas.Iterator.{YieldsList-from_slice}
 use Rattle.std.proofs.lemmas.Iterator.Search.{all_from_yields_List}
 use Rattle.comparing.specs.Marks.{mark_next, mark_end}
@@ -14,5 +14,6 @@ loop-x-preserved c =
 pub returns : goal.returns
 returns c =
     let o = c.loop-x in
-    let e = all_from_yields_List (λ x. eqb x 0 || get_or o.there x false) _ _ _ c.all.ensures.ran (YieldsList-from_slice c.args.cells.now cc) (λ x b q k. search (rules, tests)) in
-    e ∙ among_is c.args.cells.now c.args.goal.now o.there (mark_end c.args.goal.now o.there o.x-index c.loop-x-test.false ∙ o.invariant.1) (λ i. search rules)
+    let t = set o.there 0 true in
+    let e = all_from_yields_List (λ x. get_or t x false) _ _ _ c.all.ensures.ran (YieldsList-from_slice c.args.cells.now cc) (λ x b q k. search (rules, tests)) in
+    e ∙ among_is c.args.cells.now c.args.goal.now t (ap (λ u. set u 0 true) (mark_end c.args.goal.now o.there o.x-index c.loop-x-test.false ∙ o.invariant.1)) (λ i. search rules)
