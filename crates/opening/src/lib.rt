@@ -1,23 +1,57 @@
 // Map, placing and move list, read and checked in document 01's order of files.
 #![tactic(auto)]
 
-pub mod files;
+ghost use Rattle.std.specs.Prelude.{◌≡◌};
+ghost use Rattle.adjacency.specs.Rows.{blank};
+ghost use Rattle.opening.specs.Opened.{OpenedIs, YardIs};
 
+use checking::check_file;
+use layout::{MapTables, read_map};
+use placing::{PlacingTables, read_placing};
 use refusals::Refusal;
+use replay::check_moves;
 
-// A map, a placing and a move list of `count` moves that is legal and reaches the goals; or why not.
-#[derive(Clone, Copy)]
+// A map and a placing that are accepted.
+#[derive(Drop)]
+pub struct Yard {
+    pub map: MapTables,
+    pub placing: PlacingTables,
+}
+
+// A map, a placing and a move list of `count` moves that is legal and reaches the goals.
+#[derive(Drop)]
 pub struct Opened {
-    pub refusal: Refusal,
-    pub map: layout::MapRead,
-    pub placing: placing::PlacingRead,
+    pub yard: Yard,
     pub count: usize,
 }
 
-// A map and a placing that are accepted; or why not.
-#[derive(Clone, Copy)]
-pub struct Yard {
-    pub refusal: Refusal,
-    pub map: layout::MapRead,
-    pub placing: placing::PlacingRead,
+// Reads map and placing; the rows are the map's edges.
+pub fn read_yard(map: &[u8], placed: &[u8], rows: &mut [[u64; 2]; 128]) -> Result<Yard, Refusal>
+    requires { rows.old ≡ blank }
+    ensures { YardIs map.now placed.now rows.new result }
+{
+    let len = check_file(map, 1, 9).map_err(Refusal::MapFile)?;
+    let tables = read_map(map, len, rows)?;
+    let placing = read_placing(placed, tables.vertices())?;
+    Ok(Yard {
+        map: tables,
+        placing,
+    })
+}
+
+// Reads map, placing and move list, and checks the moves.
+pub fn open_list(map: &[u8], placed: &[u8], moves: &[u8]) -> Result<Opened, Refusal>
+    ensures { OpenedIs map.now placed.now moves.now result }
+{
+    let mut rows = [[0u64; 2]; 128];
+    let yard = read_yard(map, placed, &mut rows)?;
+    let len = check_file(moves, 4, 128).map_err(Refusal::ListFile)?;
+    let n = yard.map.vertices();
+    let PlacingTables {
+        robots,
+        starts,
+        goals,
+    } = yard.placing;
+    let count = check_moves(moves, len, &rows, n, starts, goals, robots as usize)?;
+    Ok(Opened { yard, count })
 }

@@ -1,19 +1,146 @@
--- A refusal as a number and a place, 0 for none, and the outcomes that they stand for.
-use Rattle.std.specs.Prelude.{ℕ, zero, suc, List, take}
+-- A refusal's number and place, and the outcome that a result stands for.
+use Rattle.std.specs.Prelude.{◌≡◌, ℕ, ◌+◌, List, take, Result, Ok, Err, MatchResult}
+use Rattle.std.proofs.Math.Path.{refl, sym, ap}
+use Rattle.std.proofs.Common.{◌∙◌}
 use Rattle.spec.specs.Outcome.{Outcome, ok, refuse}
-use Rattle.spec.specs.Arrangement.{Move}
+use Rattle.spec.specs.Wire.{payload_of}
 use Rattle.wire.specs.Payload.{payload}
-use Rattle.replay.specs.Moves.{bytes_of, moves_by}
+use Rattle.checking.specs.declared.FileFault.{FileFault}
+use Rattle.checking.specs.declared.FileFault.TheVariants as file
+use Rattle.checking.specs.Checked.{checked_of}
+use Rattle.zoning.specs.Chain as chain
+use Rattle.zoning.specs.Fault as mapFault
+use Rattle.zoning.specs.declared.MapFault.{MapFault}
+use Rattle.placing.specs.Fault as placingFault
+use Rattle.placing.specs.declared.PlacingFault.{PlacingFault}
+use Rattle.replay.specs.declared.ListFault.{ListFault}
+use Rattle.replay.specs.declared.ListFault.TheVariants as list
+use Rattle.replay.specs.Check.{refused_for}
+use Rattle.testing.specs.Fault as planFault
+use Rattle.testing.specs.declared.PlanFault.{PlanFault}
+use Rattle.answers.specs.declared.Undelivered.{Undelivered}
+use Rattle.answers.specs.declared.Undelivered.TheVariants as answer
+use Rattle.answers.specs.Delivered.{answered}
+use Rattle.refusals.specs.declared.Refusal.{Refusal}
+use Rattle.refusals.specs.declared.Refusal.TheVariants as refusal
 
--- the value, or the refusal
-abbrev pub refusal_or : {A : Type 0} → ℕ → ℕ → A → Outcome A
-refusal_or zero place a = ok a
-refusal_or (suc number) place a = refuse (suc number) place
+-- a file's faults: numbers 1 to 4 after its base, and the block
+abbrev pub part_of : FileFault → ℕ
+part_of file.Length = 1
+part_of (file.Checksum i) = 2
+part_of (file.Head i) = 3
+part_of (file.Fill i) = 4
 
--- the payload of `place` bytes in a file, or the refusal
-abbrev pub moves_file : ℕ → ℕ → List ℕ → Outcome (List ℕ)
-moves_file number place f = refusal_or number place (take place (payload f))
+abbrev pub block_of : FileFault → ℕ
+block_of file.Length = 0
+block_of (file.Checksum i) = i
+block_of (file.Head i) = i
+block_of (file.Fill i) = i
 
--- the first `place` moves of a payload, or the refusal
-abbrev pub moves_list : ℕ → ℕ → List ℕ → Outcome (List Move)
-moves_list number place p = refusal_or number place (moves_by (bytes_of p) 0 place)
+-- a move list's faults
+abbrev pub list_number : ListFault → ℕ
+list_number (list.Short i) = 45
+list_number (list.Number i) = 46
+list_number (list.Edge i) = 47
+list_number (list.Standing i) = 48
+list_number (list.Goal r) = 51
+
+abbrev pub list_place : ListFault → ℕ
+list_place (list.Short i) = i
+list_place (list.Number i) = i
+list_place (list.Edge i) = i
+list_place (list.Standing i) = i
+list_place (list.Goal r) = r
+
+abbrev pub answer_number : Undelivered → ℕ
+answer_number answer.NoRoom = 60
+answer_number answer.TooLong = 61
+
+-- document 01's number
+abbrev pub number_of : Refusal → ℕ
+number_of (refusal.MapFile f) = 10 + part_of f
+number_of (refusal.Map f) = mapFault.number_of f
+number_of (refusal.Placing f) = placingFault.number_of f
+number_of (refusal.PlanFile f) = 30 + part_of f
+number_of (refusal.Plan f) = (planFault.fault_of f).0
+number_of (refusal.ListFile f) = 40 + part_of f
+number_of (refusal.List f) = list_number f
+number_of (refusal.Answer f) = answer_number f
+
+-- its place; 0 where there is none
+abbrev pub place_of : Refusal → ℕ
+place_of (refusal.MapFile f) = block_of f
+place_of (refusal.Map f) = mapFault.fault_place f
+place_of (refusal.Placing f) = placingFault.fault_place f
+place_of (refusal.PlanFile f) = block_of f
+place_of (refusal.Plan f) = (planFault.fault_of f).1
+place_of (refusal.ListFile f) = block_of f
+place_of (refusal.List f) = list_place f
+place_of (refusal.Answer f) = 0
+
+-- the outcome that refuses so
+abbrev pub refused : {A : Type 0} → Refusal → Outcome A
+refused r = refuse (number_of r) (place_of r)
+
+-- what a result is in the words of document 01
+abbrev pub outcome_of : {A B : Type 0} → (A → B) → Result A Refusal → Outcome B
+outcome_of f r = chain.outcome_of number_of place_of f r
+
+-- a check that came out well did so before its faults were told
+pub told_ok : {F : Type 0} (r : Result ℕ F) (n : ℕ) → MatchResult r (λ m. ◌≡◌ {A = Result ℕ Refusal} (Ok n) (Ok m)) (λ e. ⊥) → r ≡ Ok n
+told_ok (Ok m) n w = cc
+told_ok (Err e) n w = absurd w
+
+-- ---- each fault is refused as its own crate says
+
+module _ (f : List ℕ) where
+  pub map_file_refused : (e : FileFault) → checked_of 10 f (Err e) ≡ refused (refusal.MapFile e)
+  map_file_refused file.Length = refl
+  map_file_refused (file.Checksum i) = refl
+  map_file_refused (file.Head i) = refl
+  map_file_refused (file.Fill i) = refl
+
+  pub plan_file_refused : (e : FileFault) → checked_of 30 f (Err e) ≡ refused (refusal.PlanFile e)
+  plan_file_refused file.Length = refl
+  plan_file_refused (file.Checksum i) = refl
+  plan_file_refused (file.Head i) = refl
+  plan_file_refused (file.Fill i) = refl
+
+  pub list_file_refused : (e : FileFault) → checked_of 40 f (Err e) ≡ refused (refusal.ListFile e)
+  list_file_refused file.Length = refl
+  list_file_refused (file.Checksum i) = refl
+  list_file_refused (file.Head i) = refl
+  list_file_refused (file.Fill i) = refl
+
+  -- what a file's check gives where its fault e is told as v e
+  module _ (base kind limit : ℕ) (v : FileFault → Refusal) (r : Result ℕ FileFault) (c : checked_of base f r ≡ payload_of base kind limit f) where
+    pub file_refused : (y : Refusal) → ((e : FileFault) → checked_of base f (Err e) ≡ refused (v e)) → MatchResult r (λ n. ◌≡◌ {A = Result ℕ Refusal} (Err y) (Ok n)) (λ e. y ≡ v e)
+        → payload_of base kind limit f ≡ refused y
+    file_refused y h w = go r w c
+      where
+        go : (s : Result ℕ FileFault) → MatchResult s (λ n. ◌≡◌ {A = Result ℕ Refusal} (Err y) (Ok n)) (λ e. y ≡ v e) → checked_of base f s ≡ payload_of base kind limit f → payload_of base kind limit f ≡ refused y
+        go (Ok n) w c = cc
+        go (Err e) w c = rw w (sym c ∙ h e)
+
+    pub file_read : (n : ℕ) → MatchResult r (λ m. ◌≡◌ {A = Result ℕ Refusal} (Ok n) (Ok m)) (λ e. ⊥) → (r ≡ Ok n) × (payload_of base kind limit f ≡ ok (take n (payload f)))
+    file_read n w = let x = told_ok r n w in (x, sym c ∙ ap (checked_of base f) x)
+
+pub map_refused : {A B : Type 0} (v : A → B) (e : MapFault) → mapFault.answered v (Err e) ≡ refused (refusal.Map e)
+map_refused v e = refl
+
+pub placing_refused : {A B : Type 0} (v : A → B) (e : PlacingFault) → placingFault.answered v (Err e) ≡ refused (refusal.Placing e)
+placing_refused v e = refl
+
+pub plan_refused : {A : Type 0} (e : PlanFault) → planFault.refused {A = A} e ≡ refused (refusal.Plan e)
+plan_refused e = refl
+
+pub list_refused : {A : Type 0} (e : ListFault) → refused_for {A = A} e ≡ refused (refusal.List e)
+list_refused (list.Short i) = refl
+list_refused (list.Number i) = refl
+list_refused (list.Edge i) = refl
+list_refused (list.Standing i) = refl
+list_refused (list.Goal r) = refl
+
+pub answer_refused : (e : Undelivered) (o : List ℕ) → answered (Err e) o ≡ record { number = number_of (refusal.Answer e); value = place_of (refusal.Answer e); buffer = o }
+answer_refused answer.TooLong o = refl
+answer_refused answer.NoRoom o = refl

@@ -1,257 +1,163 @@
-// Document 01's number and place for each case of the readers' and checkers' answers.
+// Document 01's table of refusals: the number and place of each fault that the readers, the checkers and the writer find.
 #![tactic(auto)]
 
-ghost use Rattle.std.specs.Prelude.{◌≡◌, ℕ, List};
-ghost use Rattle.spec.specs.Layout.{Map, Placing};
-ghost use Rattle.zoning.specs.Fault as mapFault;
-ghost use Rattle.placing.specs.Fault as placingFault;
-ghost use Rattle.spec.specs.Arrangement.{Move};
-ghost use Rattle.replay.specs.Check.{move_list_of};
-ghost use Rattle.testing.specs.Fault.{fault_of};
-ghost use Rattle.checking.specs.Checked.{checked_of};
-ghost use Rattle.refusals.specs.Refusals.{refusal_or, moves_file, moves_list};
+ghost use Rattle.std.specs.Prelude.{◌≡◌};
+ghost use Rattle.refusals.specs.declared.Refusal.TheVariants.{Map, Placing, Plan, List, Answer};
+ghost use Rattle.refusals.specs.Refusals.{block_of, number_of, place_of};
 
-use checking::Checked;
+use answers::Undelivered;
+use checking::FileFault;
 use placing::PlacingFault;
-use replay::MoveList;
+use replay::ListFault;
 use testing::PlanFault;
 use zoning::MapFault;
 
-// A refusal's number and place; number 0 is no refusal.
-#[derive(Clone, Copy)]
-pub struct Refusal {
-    pub number: u32,
-    pub place: usize,
+// Why a service refuses.
+#[derive(Clone, Copy, Debug, PartialEq, Eq)]
+pub enum Refusal {
+    MapFile(FileFault),
+    Map(MapFault),
+    Placing(PlacingFault),
+    PlanFile(FileFault),
+    Plan(PlanFault),
+    ListFile(FileFault),
+    List(ListFault),
+    Answer(Undelivered),
 }
 
-// A map's file: 11 to 14; where there is no refusal, the place is the payload's length.
-pub fn of_map_file(checked: Checked) -> Refusal
-    ensures by_index { (f : List ℕ) → moves_file result.number result.place f ≡ checked_of 10 f checked }
-    ensures checked_value { result.number ≡ 0 → checked ≡ Checked.Payload result.place }
-{
-    match checked {
-        Checked::Payload(len) => Refusal {
-            number: 0,
-            place: len,
-        },
-        Checked::Length => Refusal {
-            number: 11,
-            place: 0,
-        },
-        Checked::Checksum(i) => Refusal {
-            number: 12,
-            place: i,
-        },
-        Checked::Head(i) => Refusal {
-            number: 13,
-            place: i,
-        },
-        Checked::Fill(i) => Refusal {
-            number: 14,
-            place: i,
-        },
+impl From<MapFault> for Refusal {
+    ghost from_gives = { λ f r. r ≡ Map f };
+
+    fn from(f: MapFault) -> Refusal {
+        Refusal::Map(f)
     }
 }
 
-// A map's: 15 to 19, where its blocks have passed.
-pub fn of_map(fault: MapFault) -> Refusal
-    ensures { (m : Map) → refusal_or result.number result.place m ≡ mapFault.answered fault m }
-{
-    match fault {
-        MapFault::None => Refusal {
-            number: 0,
-            place: 0,
-        },
-        MapFault::Short(o) => Refusal {
-            number: 15,
-            place: o,
-        },
-        MapFault::Range(o) => Refusal {
-            number: 16,
-            place: o,
-        },
-        MapFault::Listing(o) => Refusal {
-            number: 17,
-            place: o,
-        },
-        MapFault::Edge(o) => Refusal {
-            number: 18,
-            place: o,
-        },
-        MapFault::Kind(z) => Refusal {
-            number: 19,
-            place: z,
-        },
+impl From<PlacingFault> for Refusal {
+    ghost from_gives = { λ f r. r ≡ Placing f };
+
+    fn from(f: PlacingFault) -> Refusal {
+        Refusal::Placing(f)
     }
 }
 
-// A placing's: 21 to 28.
-pub fn of_placing(fault: PlacingFault) -> Refusal
-    ensures { (p : Placing) → refusal_or result.number result.place p ≡ placingFault.answered fault p }
-{
-    match fault {
-        PlacingFault::None => Refusal {
-            number: 0,
-            place: 0,
-        },
-        PlacingFault::Length => Refusal {
-            number: 21,
-            place: 0,
-        },
-        PlacingFault::Checksum(i) => Refusal {
-            number: 22,
-            place: i,
-        },
-        PlacingFault::Head(i) => Refusal {
-            number: 23,
-            place: i,
-        },
-        PlacingFault::Fill(i) => Refusal {
-            number: 24,
-            place: i,
-        },
-        PlacingFault::Short(o) => Refusal {
-            number: 25,
-            place: o,
-        },
-        PlacingFault::Range => Refusal {
-            number: 26,
-            place: 0,
-        },
-        PlacingFault::Start(o) => Refusal {
-            number: 27,
-            place: o,
-        },
-        PlacingFault::Goal(o) => Refusal {
-            number: 28,
-            place: o,
-        },
+impl From<PlanFault> for Refusal {
+    ghost from_gives = { λ f r. r ≡ Plan f };
+
+    fn from(f: PlanFault) -> Refusal {
+        Refusal::Plan(f)
     }
 }
 
-// A move list's file: 41 to 44; where there is no refusal, the place is the payload's length.
-pub fn of_file(checked: Checked) -> Refusal
-    ensures by_index { (f : List ℕ) → moves_file result.number result.place f ≡ checked_of 40 f checked }
-    ensures checked_value { result.number ≡ 0 → checked ≡ Checked.Payload result.place }
-{
-    match checked {
-        Checked::Payload(len) => Refusal {
-            number: 0,
-            place: len,
-        },
-        Checked::Length => Refusal {
-            number: 41,
-            place: 0,
-        },
-        Checked::Checksum(i) => Refusal {
-            number: 42,
-            place: i,
-        },
-        Checked::Head(i) => Refusal {
-            number: 43,
-            place: i,
-        },
-        Checked::Fill(i) => Refusal {
-            number: 44,
-            place: i,
-        },
+impl From<ListFault> for Refusal {
+    ghost from_gives = { λ f r. r ≡ List f };
+
+    fn from(f: ListFault) -> Refusal {
+        Refusal::List(f)
     }
 }
 
-// A move list's: 45 to 48 and 51; where there is no refusal, the place is the number of moves.
-pub fn of_list(list: MoveList) -> Refusal
-    ensures { (p : List ℕ) → moves_list result.number result.place p ≡ move_list_of p list }
-{
-    match list {
-        MoveList::Legal(n) => Refusal {
-            number: 0,
-            place: n,
-        },
-        MoveList::Short(i) => Refusal {
-            number: 45,
-            place: i,
-        },
-        MoveList::Number(i) => Refusal {
-            number: 46,
-            place: i,
-        },
-        MoveList::Edge(i) => Refusal {
-            number: 47,
-            place: i,
-        },
-        MoveList::Standing(i) => Refusal {
-            number: 48,
-            place: i,
-        },
-        MoveList::Goal(r) => Refusal {
-            number: 51,
-            place: r,
-        },
+impl From<Undelivered> for Refusal {
+    ghost from_gives = { λ f r. r ≡ Answer f };
+
+    fn from(f: Undelivered) -> Refusal {
+        Refusal::Answer(f)
     }
 }
 
-// A plan's file: 31 to 34; where there is no refusal, the place is the payload's length.
-pub fn of_plan_file(checked: Checked) -> Refusal
-    ensures by_index { (f : List ℕ) → moves_file result.number result.place f ≡ checked_of 30 f checked }
-    ensures checked_value { result.number ≡ 0 → checked ≡ Checked.Payload result.place }
-{
-    match checked {
-        Checked::Payload(len) => Refusal {
-            number: 0,
-            place: len,
-        },
-        Checked::Length => Refusal {
-            number: 31,
-            place: 0,
-        },
-        Checked::Checksum(i) => Refusal {
-            number: 32,
-            place: i,
-        },
-        Checked::Head(i) => Refusal {
-            number: 33,
-            place: i,
-        },
-        Checked::Fill(i) => Refusal {
-            number: 34,
-            place: i,
-        },
+impl Refusal {
+    // The number: map 11 to 19, placing 21 to 28, plan 31 to 39 and 50, move list 41 to 48 and 51, answer 60 and 61.
+    pub fn number(self) -> u32
+        ensures { result ≡ number_of self }
+    {
+        match self {
+            Refusal::MapFile(FileFault::Length) => 11,
+            Refusal::MapFile(FileFault::Checksum(_)) => 12,
+            Refusal::MapFile(FileFault::Head(_)) => 13,
+            Refusal::MapFile(FileFault::Fill(_)) => 14,
+            Refusal::Map(MapFault::Short(_)) => 15,
+            Refusal::Map(MapFault::Range(_)) => 16,
+            Refusal::Map(MapFault::Listing(_)) => 17,
+            Refusal::Map(MapFault::Edge(_)) => 18,
+            Refusal::Map(MapFault::Kind(_)) => 19,
+            Refusal::Placing(PlacingFault::File(FileFault::Length)) => 21,
+            Refusal::Placing(PlacingFault::File(FileFault::Checksum(_))) => 22,
+            Refusal::Placing(PlacingFault::File(FileFault::Head(_))) => 23,
+            Refusal::Placing(PlacingFault::File(FileFault::Fill(_))) => 24,
+            Refusal::Placing(PlacingFault::Short(_)) => 25,
+            Refusal::Placing(PlacingFault::Range) => 26,
+            Refusal::Placing(PlacingFault::Start(_)) => 27,
+            Refusal::Placing(PlacingFault::Goal(_)) => 28,
+            Refusal::PlanFile(FileFault::Length) => 31,
+            Refusal::PlanFile(FileFault::Checksum(_)) => 32,
+            Refusal::PlanFile(FileFault::Head(_)) => 33,
+            Refusal::PlanFile(FileFault::Fill(_)) => 34,
+            Refusal::Plan(PlanFault::Short(_)) => 35,
+            Refusal::Plan(PlanFault::Number(_)) => 36,
+            Refusal::Plan(PlanFault::Edge(_)) => 37,
+            Refusal::Plan(PlanFault::Leave(_)) => 38,
+            Refusal::Plan(PlanFault::Enter(_)) => 39,
+            Refusal::Plan(PlanFault::Goal(_)) => 50,
+            Refusal::ListFile(FileFault::Length) => 41,
+            Refusal::ListFile(FileFault::Checksum(_)) => 42,
+            Refusal::ListFile(FileFault::Head(_)) => 43,
+            Refusal::ListFile(FileFault::Fill(_)) => 44,
+            Refusal::List(ListFault::Short(_)) => 45,
+            Refusal::List(ListFault::Number(_)) => 46,
+            Refusal::List(ListFault::Edge(_)) => 47,
+            Refusal::List(ListFault::Standing(_)) => 48,
+            Refusal::List(ListFault::Goal(_)) => 51,
+            Refusal::Answer(Undelivered::NoRoom) => 60,
+            Refusal::Answer(Undelivered::TooLong) => 61,
+        }
+    }
+
+    // The place: a block, a payload offset, a zone, a step, a move or a robot; 0 where there is none.
+    pub fn place(self) -> usize
+        ensures { result ≡ place_of self }
+    {
+        match self {
+            Refusal::MapFile(f)
+            | Refusal::Placing(PlacingFault::File(f))
+            | Refusal::PlanFile(f)
+            | Refusal::ListFile(f) => block_of(f),
+            Refusal::Map(
+                MapFault::Short(i)
+                | MapFault::Range(i)
+                | MapFault::Listing(i)
+                | MapFault::Edge(i)
+                | MapFault::Kind(i),
+            ) => i,
+            Refusal::Placing(
+                PlacingFault::Short(i) | PlacingFault::Start(i) | PlacingFault::Goal(i),
+            ) => i,
+            Refusal::Plan(
+                PlanFault::Short(i)
+                | PlanFault::Number(i)
+                | PlanFault::Edge(i)
+                | PlanFault::Leave(i)
+                | PlanFault::Enter(i)
+                | PlanFault::Goal(i),
+            ) => i,
+            Refusal::List(
+                ListFault::Short(i)
+                | ListFault::Number(i)
+                | ListFault::Edge(i)
+                | ListFault::Standing(i)
+                | ListFault::Goal(i),
+            ) => i,
+            Refusal::Placing(PlacingFault::Range) => 0,
+            Refusal::Answer(_) => 0,
+        }
     }
 }
 
-// A plan's: 35 to 39 and 50.
-pub fn of_plan(fault: PlanFault) -> Refusal
-    ensures ms_value { (ms : List Move) → refusal_or result.number result.place ms ≡ fault_of fault ms }
-    ensures fault_value { result.number ≡ 0 → fault ≡ PlanFault.None }
+// The block of a file's fault; 0 where it is of the whole file.
+fn block_of(f: FileFault) -> usize
+    ensures { result ≡ block_of f }
 {
-    match fault {
-        PlanFault::None => Refusal {
-            number: 0,
-            place: 0,
-        },
-        PlanFault::Short(i) => Refusal {
-            number: 35,
-            place: i,
-        },
-        PlanFault::Number(i) => Refusal {
-            number: 36,
-            place: i,
-        },
-        PlanFault::Edge(i) => Refusal {
-            number: 37,
-            place: i,
-        },
-        PlanFault::Leave(i) => Refusal {
-            number: 38,
-            place: i,
-        },
-        PlanFault::Enter(i) => Refusal {
-            number: 39,
-            place: i,
-        },
-        PlanFault::Goal(z) => Refusal {
-            number: 50,
-            place: z,
-        },
+    match f {
+        FileFault::Length => 0,
+        FileFault::Checksum(i) | FileFault::Head(i) | FileFault::Fill(i) => i,
     }
 }
