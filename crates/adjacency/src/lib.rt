@@ -10,15 +10,10 @@ pub fn joined(rows: &[[u64; 2]; 128], u: numbering::Vertex, v: numbering::Vertex
 {
     let a = u.0 as usize;
     let b = v.0 as usize;
-    if a >= 128 {
+    if a >= 128 || b >= 128 {
         return false;
     }
-    if b >= 128 {
-        return false;
-    }
-    let word = rows[a][b / 64];
-    let place = (b % 64) as u32;
-    (word >> place) % 2 == 1
+    (rows[a][b / 64] >> (b % 64)) % 2 == 1
 }
 
 // Sets bit b of row a.
@@ -26,9 +21,7 @@ fn put(rows: &mut [[u64; 2]; 128], a: usize, b: usize)
     requires { (a < 128) × (b < 128) }
     ensures { rows.new ≡ put_bit rows.old a b }
 {
-    let word = rows[a][b / 64];
-    let place = (b % 64) as u32;
-    rows[a][b / 64] = word | (1 << place);
+    rows[a][b / 64] |= 1 << (b % 64);
 }
 
 // Enters the edge between two vertices; one that is not below 128 changes nothing.
@@ -37,20 +30,15 @@ pub fn add_edge(rows: &mut [[u64; 2]; 128], u: numbering::Vertex, v: numbering::
 {
     let a = u.0 as usize;
     let b = v.0 as usize;
-    if a >= 128 {
-        return;
+    if a < 128 && b < 128 {
+        put(rows, a, b);
+        put(rows, b, a);
     }
-    if b >= 128 {
-        return;
-    }
-    put(rows, a, b);
-    put(rows, b, a);
 }
 
 // Takes every edge away.
 pub fn clear(rows: &mut [[u64; 2]; 128])
     ensures { rows.new ≡ blank }
 {
-    let none = [[0u64; 2]; 128];
-    *rows = none;
+    *rows = [[0; 2]; 128];
 }

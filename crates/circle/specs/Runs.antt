@@ -9,7 +9,7 @@ use mathlib.Core.List.{map-append}
 use Rattle.spec.specs.Arrangement.{Arrangement}
 use Rattle.spec.specs.Ring.{wrap, frame, run}
 use Rattle.spec.specs.State.{State, cell_of, robot_on, arrangement_of}
-use Rattle.theory.specs.Maps.Cells.{cell_of_lem, cell_none, cell_robot}
+use Rattle.theory.specs.Maps.Cells.{cell_of_lem, cell_none, cell_robot, cell_injective}
 use Rattle.motion.specs.Across.{arrangement_length, arrangement_at}
 use Rattle.circle.specs.Places.{wrap_is, wrap_under}
 
@@ -71,13 +71,16 @@ run_prefix s (v ∷ vs) = at (ℕ_discrete (robot_on s v) 255) (run_prefix s vs)
     at (yes e) i = rw (eq-eqb _ _ e, cell_none e) refl
     at (no n) i = rw (ne_eqb _ _ n, cell_of_lem n) (omega (arith, i))
 
+-- the zone's vertices read from place p on have the ring's arrangement read from there on
+pub frame_arrangement : (s : State) (vs : List ℕ) (p : ℕ) → arrangement_of s (drop p vs ++ take p vs) ≡ frame p (arrangement_of s vs)
+unfolding frame arrangement_of
+frame_arrangement s vs p =
+    map-append (λ v. cell_of (robot_on s v)) (drop p vs) (take p vs)
+    ∙ ap₂ (λ (x y : Arrangement). x ++ y) (sym (drop-map (λ v. cell_of (robot_on s v)) p vs)) (sym (take-map (λ v. cell_of (robot_on s v)) p vs))
+
 -- the run at place p, counted over the zone's vertices from that place on
 pub run_counted : (s : State) (vs : List ℕ) (p : ℕ) → prefix_len (λ v. not (eqb (robot_on s v) 255)) (drop p vs ++ take p vs) ≡ length (run_at s vs p)
-unfolding frame arrangement_of
-run_counted s vs p =
-    run_prefix s (drop p vs ++ take p vs)
-    ∙ ap (λ (f : Arrangement). length (run f))
-    (map-append (λ v. cell_of (robot_on s v)) (drop p vs) (take p vs) ∙ ap₂ (λ (x y : Arrangement). x ++ y) (sym (drop-map _ p vs)) (sym (take-map _ p vs)))
+run_counted s vs p = run_prefix s (drop p vs ++ take p vs) ∙ ap (λ (f : Arrangement). length (run f)) (frame_arrangement s vs p)
 
 module _ (s : State) (vs : List ℕ) (p : ℕ) (h : p < length vs) where
   -- the ring read from p on is as long as the zone
@@ -94,6 +97,13 @@ module _ (s : State) (vs : List ℕ) (p : ℕ) (h : p < length vs) where
   -- whoever stands k places on is the k-th robot of the run
   pub run_robot : (k r : ℕ) → k < length (run_at s vs p) → k < length vs → r ≡ robot_on s (get_or vs (wrap (length vs) (p + k)) 0) → r ≡ get_or (run_at s vs p) k 0
   run_robot k r a b e = (cell_robot r (get_or (run_at s vs p) k 0) (ap cell_of e ∙ sym (frame_robot k b) ∙ run_cell (frame p (arrangement_of s vs)) k a)).0
+
+  -- the code's robot k places on from p
+  pub robot_around : (k i r : ℕ) → k ≤ length vs → i ≡ wrap (length vs) (p + k) → cell_of r ≡ get_or (arrangement_of s vs) i 0
+      → r ≡ robot_on s (get_or vs (wrap (length vs) (p + k)) 0)
+  robot_around k i r l e d =
+      cell_injective r (robot_on s (get_or vs (wrap (length vs) (p + k)) 0))
+      (d ∙ ap (λ (q : ℕ). get_or (arrangement_of s vs) q 0) e ∙ arrangement_at s vs (wrap (length vs) (p + k)) (wrap_under (length vs) p k h l))
 
   -- no robot of the run is 255
   pub run_named : (k : ℕ) → k < length (run_at s vs p) → get_or (run_at s vs p) k 0 ≢ 255

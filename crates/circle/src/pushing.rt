@@ -9,8 +9,7 @@ ghost use Rattle.circle.specs.Runs.{run_at};
 ghost use Rattle.circle.specs.Pushes.{pushed};
 
 use crate::places::{around, distance, next};
-use crate::reading::robot_at;
-use cells::{place_of, vertex_at};
+use cells::{place_of, robot_at, vertex_at};
 use motion::State;
 use numbering::{Robot, Vertex};
 

@@ -5,10 +5,10 @@ ghost use Rattle.spec.specs.State.{arrangement_of, across};
 ghost use Rattle.spec.specs.Terms.{Distinct};
 ghost use Rattle.motion.specs.World.{world, made_all};
 
-use motion::State;
 use arranging::toward::go_toward;
 use cells::{cells_of, is_full};
 use comparing::{same_cells, same_robots};
+use motion::State;
 
 // Are the goals in the configuration of the clique? The two arrangements are worked out in lent cells.
 fn can_end_in(state: &State, zone: &[u8], goals: &State, cells: &mut [u8], goal: &mut [u8]) -> bool

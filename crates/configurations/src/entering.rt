@@ -1,12 +1,14 @@
 // Who can enter a zone that is not full, by the list of its robots, the first n of a part, and the list afterwards.
 ghost use Rattle.std.specs.Prelude.{◌≡◌, List, ℕ, suc, ◌+◌, ◌-◌, ◌*◌, ◌/◌, ◌≤◌, ◌<◌, length, take};
 ghost use Rattle.spec.specs.Ring.{wrap};
+ghost use Rattle.numbering.specs.Kind.{number_of};
 ghost use Rattle.orders.specs.Orders.{entry_in, ring_entered, entered};
 ghost use Rattle.orders.specs.Orders.{list_met, clique_enters, ring_enters, hall_enters, enter_test};
 ghost use Rattle.walking.specs.Held.{held_part};
 ghost use Rattle.rosters.specs.Lists.{Rewritten};
 ghost use Rattle.configurations.specs.Entering.{EntryIndex, EntryFound, entry_on};
 
+use numbering::{Robot, ZoneKind};
 use reaching::reach::has_room;
 use rosters::finding::index_in;
 use rosters::lists::{insert, remove};
@@ -44,14 +46,21 @@ fn ring_entry(list: &[u8], behind: u8) -> Option<usize>
 }
 
 // "Entering needs a reachable one with to empty and the named neighbour": where a robot comes in at place j, if it can, where it fills no clique.
-pub fn entry_at(kind: u8, part: &[u8], n: usize, size: usize, j: usize, behind: u8) -> Option<usize>
-    requires { (n < size) × (size ≤ length part.now) × (size ≤ 128) × (kind ≡ 3 → suc n ≡ size → ⊥) }
-    ensures { (r : ℕ) (list : List ℕ) → EntryFound (enter_test kind size (take n part.now) r j behind list) n (entry_on kind behind (take n part.now)) result }
+pub fn entry_at(
+    kind: ZoneKind,
+    part: &[u8],
+    n: usize,
+    size: usize,
+    j: usize,
+    behind: u8,
+) -> Option<usize>
+    requires { (n < size) × (size ≤ length part.now) × (size ≤ 128) × (number_of kind ≡ 3 → suc n ≡ size → ⊥) }
+    ensures { (r : ℕ) (list : List ℕ) → EntryFound (enter_test (number_of kind) size (take n part.now) r j behind list) n (entry_on (number_of kind) behind (take n part.now)) result }
 {
     let list = &part[..n];
     match kind {
-        3 => (behind == 255).then_some(n),
-        4 => ring_entry(list, behind),
+        ZoneKind::Clique => (behind == 255).then_some(n),
+        ZoneKind::Ring => ring_entry(list, behind),
         _ => hall_entry(list, size, j, behind),
     }
 }
@@ -92,18 +101,18 @@ pub fn can_fill(
     part: &[u8],
     n: usize,
     size: usize,
-    r: u8,
+    r: Robot,
     j: usize,
     behind: u8,
 ) -> bool
     requires { (n + 1 ≡ size) × (size ≤ length part.now) × (size ≤ 128) × (j < size) × (from + size ≤ length file.now / 512 * 504) }
-    ensures { (len : ℕ) → len ≤ length file.now / 512 * 504 → from + size ≤ len → result ≡ clique_enters size (take n part.now) r j behind (held_part file.now len from size) }
+    ensures { (len : ℕ) → len ≤ length file.now / 512 * 504 → from + size ≤ len → result ≡ clique_enters size (take n part.now) r.0 j behind (held_part file.now len from size) }
 {
     if behind != 255 {
         return false;
     }
     let mut list = [0u8; 128];
-    list_met_in(file, from, part, n, r, j, &mut list[..size])
+    list_met_in(file, from, part, n, r.0, j, &mut list[..size])
 }
 
 // How far a filled ring of n places is turned, where the robot at index t is to come to place j.
@@ -130,13 +139,21 @@ fn ring_enter(part: &mut [u8], n: usize, size: usize, t: usize, r: u8, j: usize)
 }
 
 // Robot r comes in before the one at index t, at place j, and fills no clique: the list is the one of the configuration after the step.
-pub fn enter_at(kind: u8, part: &mut [u8], n: usize, size: usize, t: usize, r: u8, j: usize)
-    requires { (n < size) × (size ≤ length part.old) × (size ≤ 128) × (j < size) × (t ≤ n) × (kind ≡ 3 → suc n ≡ size → ⊥) }
-    ensures { (behind : ℕ) (list : List ℕ) → t ≡ entry_on kind behind (take n part.old) → Rewritten part.old size (entered kind size (take n part.old) r j behind list) part.new }
+pub fn enter_at(
+    kind: ZoneKind,
+    part: &mut [u8],
+    n: usize,
+    size: usize,
+    t: usize,
+    r: Robot,
+    j: usize,
+)
+    requires { (n < size) × (size ≤ length part.old) × (size ≤ 128) × (j < size) × (t ≤ n) × (number_of kind ≡ 3 → suc n ≡ size → ⊥) }
+    ensures { (behind : ℕ) (list : List ℕ) → t ≡ entry_on (number_of kind) behind (take n part.old) → Rewritten part.old size (entered (number_of kind) size (take n part.old) r.0 j behind list) part.new }
 {
     match kind {
-        4 => ring_enter(part, n, size, t, r, j),
-        _ => insert(part, n, t, r),
+        ZoneKind::Ring => ring_enter(part, n, size, t, r.0, j),
+        _ => insert(part, n, t, r.0),
     }
 }
 

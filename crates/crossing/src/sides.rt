@@ -85,7 +85,16 @@ pub fn leave_at(
     }
     let z = map.zone_of(u);
     let zone = map.vertices_of(z);
-    leave_in(state, count, map.kind_of(z), zone, r, map.place_of(u), u, out)
+    leave_in(
+        state,
+        count,
+        map.kind_of(z),
+        zone,
+        r,
+        map.place_of(u),
+        u,
+        out,
+    )
 }
 
 // Is place j of the zone, which is vertex v, empty and the named robot behind it?

@@ -1,13 +1,11 @@
 -- How far the drawing of a plan has come: the steps of the moves that passed are laid, what is left laid from here is the whole.
-use Rattle.std.specs.Prelude.{◌≡◌, refl, ℕ, ◌+◌, ◌-◌, ◌≤◌, ◌<◌, Bool, true, false, get_or, take, drop, set, eqb, leb}
+use Rattle.std.specs.Prelude.{◌≡◌, refl, ℕ, ◌+◌, ◌-◌, ◌≤◌, ◌<◌, Bool, true, false, get_or, drop, eqb}
 use Rattle.std.proofs.Math.Path.{sym}
-use Rattle.std.proofs.Common.{ap, ap₂, ◌∙◌, length-set, length-drop, length-take-le, eq-eqb, ne_eqb, le-leb}
+use Rattle.std.proofs.Common.{ap, ap₂, ◌∙◌, length-take, eq-eqb, ne_eqb}
 use native.Mathlib.Omega.{arith}
 use Rattle.std.proofs.Math.Decide.{ℕ_discrete}
-use mathlib.Core.List.{List, [], ◌∷◌}
+use mathlib.Core.List.{List, ◌∷◌}
 use Rattle.std.proofs.Math.ListN.{length, length-append}
-use Rattle.std.proofs.Math.Seq.{set_out}
-use Rattle.std.proofs.lemmas.Bool.{lt-leb}
 use Rattle.spec.specs.Outcome.{◌and◌, index_of}
 use Rattle.spec.specs.Layout.{Map, Zone, zone_of, zone_at}
 use Rattle.spec.specs.Arrangement.{Move, mv, last_free}
@@ -15,10 +13,9 @@ use Rattle.spec.specs.ZoneKind.{behind_of}
 use Rattle.spec.specs.State.{State, Step, moved, arrangement_of, step_of, drawn_steps, step_bytes}
 use Rattle.spec.specs.Terms.{Stands}
 use Rattle.theory.specs.Maps.Layout.{Accepted}
-use Rattle.zoning.specs.declared.MapFault.{MapFault}
-use Rattle.layout.specs.declared.MapRead.{MapRead}
+use Rattle.layout.specs.declared.MapTables.{MapTables}
 use Rattle.layout.specs.Map.{MapHeld}
-use Rattle.layout.specs.Tables.{entry_of, entry_is}
+use Rattle.layout.specs.Lists.{HasPart, part_of}
 use Rattle.writer.specs.Laid.{laid_all, laid_append}
 use Rattle.drawing.specs.declared.Drawn.{Drawn}
 use Rattle.noting.specs.Follow.{followed, step_from}
@@ -52,10 +49,6 @@ pub record Drawing (m : Map) (byte : ℕ → ℕ) (n : ℕ) (s₀ : State) (o₀
   pub buffer : laid_all o off (step_bytes (left m byte n i s)) ≡ laid_all o₀ 2 (step_bytes (left m byte n 0 s₀))
 
 module _ (m : Map) (byte : ℕ → ℕ) (n : ℕ) (s₀ : State) (o₀ : List ℕ) where
-  -- nothing is drawn yet
-  pub drawing_start : Drawing m byte n s₀ o₀ 0 s₀ 0 2 o₀
-  drawing_start = record { count = omega arith; size = refl; buffer = refl }
-
   module _ (i : ℕ) (s : State) (steps off : ℕ) (o : List ℕ) (d : Drawing m byte n s₀ o₀ i s steps off o) (h : i < n) where
     -- a move inside a zone
     pub drawing_inside : (x : Move) → x ≡ move_by byte i → zone_of m x.from ≡ zone_of m x.to → Drawing m byte n s₀ o₀ (i + 1) (moved s x) steps off o
@@ -88,15 +81,6 @@ module _ (m : Map) (byte : ℕ → ℕ) (n : ℕ) (s₀ : State) (o₀ : List �
 
 -- ---- one move
 
--- the map whose tables are lent one by one
-abbrev pub lent_map : MapFault → ℕ → ℕ → (kind first size listed zone place : List ℕ) → MapRead
-lent_map f n z kind first size listed zone place =
-    record { fault = f; vertices = n; zones = z; kind = kind; first = first; size = size; listed = listed; zone = zone; place = place }
-
-pub lent_held : (map : MapRead) (listed : List ℕ) (m : Map) → listed ≡ map.listed → MapHeld map m
-    → MapHeld (lent_map map.fault map.vertices map.zones map.kind map.first map.size listed map.zone map.place) m
-lent_held map listed m e h = rw e h
-
 -- what a move does to the drawing: nothing inside a zone, else its step is laid
 pub record MoveDrawn (m : Map) (s : State) (x : Move) (d : Drawn) (o : List ℕ) (q : Drawn) (o' : List ℕ) : Type 0 where
   pub inside : zone_of m x.from ≡ zone_of m x.to → (q.steps ≡ d.steps) × (q.bytes ≡ d.bytes) × (o' ≡ o)
@@ -113,11 +97,6 @@ step_into_lem : (m : Map) (s : State) (r u v : ℕ) → step_into s r u v (zone_
 unfolding step_from step_of followed
 step_into_lem m s r u v = refl
 
--- the robots by vertex are all that a step names
-step_alone : (m : Map) (robots vertices : List ℕ) (x : Move) → step_of m (on_vertices robots) x ≡ step_of m (tabled robots vertices) x
-unfolding step_of arrangement_of
-step_alone m robots vertices x = refl
-
 -- the bytes that are laid are the step's
 step_is : (m : Map) (s : State) (r u v kind j behind : ℕ) (vs : List ℕ) (filled : Bool) → zone_at m (zone_of m v) ≡ record { kind = kind; vertices = vs }
     → j ≡ index_of v vs → behind ≡ behind_of kind (arrangement_of s vs) j → filled ≡ (eqb kind 3 and last_free (arrangement_of s vs))
@@ -127,92 +106,51 @@ step_is m s r u v kind j behind vs filled ez ej eb ef =
     ∙ ap (λ (i : ℕ). step_from s vs i r u v (behind_of kind (arrangement_of s vs) i) (eqb kind 3 and last_free (arrangement_of s vs))) ej
     ∙ sym (ap (step_into s r u v) ez) ∙ step_into_lem m s r u v
 
--- the part of a listing from a to before e; nothing where the listing ends before
-unfoldable pub part_of : List ℕ → ℕ → ℕ → List ℕ
-part_of l a e = elim (leb e (length l)) [ true ↦ take (e - a) (drop a l) | false ↦ [] ]
-
-pub part_in : (l : List ℕ) (a e : ℕ) → e ≤ length l → take (e - a) (drop a l) ≡ part_of l a e
-unfolding part_of
-part_in l a e h = rw (le-leb e (length l) h, part_of)
-
-pub part_out : (l : List ℕ) (a e : ℕ) → length l < e → [] ≡ part_of l a e
-unfolding part_of
-part_out l a e h = rw (lt-leb e (length l) h, part_of)
-
-part_is : (l : List ℕ) (a n : ℕ) → a + n ≤ length l → part_of l a (a + n) ≡ take n (drop a l)
-part_is l a n h = let e : a + n - a ≡ n = omega arith in sym (part_in l a (a + n) h) ∙ ap (λ (k : ℕ). take k (drop a l)) e
-
-module _ (map : MapRead) (m : Map) (h : MapHeld map m) (g : Accepted m) (u v : ℕ) (hv : v < m.size) where
+module _ (map : MapTables) (m : Map) (h : MapHeld map m) (g : Accepted m) (u v : ℕ) (hv : v < m.size) where
   at : Stands m v (zone_of m v) (index_of v (zone_at m (zone_of m v)).vertices)
   at = g.placed v hv
 
   low : zone_of m v < map.zones
   low = omega (arith, at.zone, h.count)
 
-  module _ (x y : ℕ) (ex : x ≡ entry_of 128 255 map.zone u) (ey : y ≡ entry_of 128 255 map.zone v) where
-    from_zone : x ≡ zone_of m u
-    from_zone = ex ∙ entry_is 128 255 map.zone u h.long_zone ∙ h.zone_of_lem u
-
+  module _ (x y : ℕ) (ex : x ≡ get_or map.zone u 255) (ey : y ≡ get_or map.zone v 255) where
     to_zone : y ≡ zone_of m v
-    to_zone = ey ∙ entry_is 128 255 map.zone v h.long_zone ∙ h.zone_of_lem v
+    to_zone = ey ∙ h.zone_of_lem v
 
     -- a move inside a zone
     pub drawn_inside : (s : State) (r : ℕ) (d : Drawn) (o : List ℕ) → x ≡ y → MoveDrawn m s (mv r u v) d o d o
-    drawn_inside s r d o e = record { inside = λ z. (refl, refl, refl); crossing = λ n. absurd (n (sym from_zone ∙ e ∙ to_zone)) }
+    drawn_inside s r d o e = record { inside = λ z. (refl, refl, refl); crossing = λ n. absurd (n (sym (ex ∙ h.zone_of_lem u) ∙ e ∙ to_zone)) }
 
-    module _ (kind a n j : ℕ) (ek : kind ≡ entry_of 64 0 map.kind y) (ea : a ≡ entry_of 64 0 map.first y) (en : n ≡ entry_of 64 0 map.size y)
-        (ej : j ≡ entry_of 128 0 map.place v) where
-      kind_is : kind ≡ get_or map.kind (zone_of m v) 0
-      kind_is = ek ∙ entry_is 64 0 map.kind y h.long_kind ∙ ap (λ (z : ℕ). get_or map.kind z 0) to_zone
+    -- the zone that is entered is a part of the listing
+    pub part_held : HasPart map y
+    part_held = rw to_zone (record { below = omega (arith, low, h.few); inside = h.inside (zone_of m v) low })
 
-      first_is : a ≡ get_or map.first (zone_of m v) 0
-      first_is = ea ∙ entry_is 64 0 map.first y h.long_first ∙ ap (λ (z : ℕ). get_or map.first z 0) to_zone
+    module _ (kind j : ℕ) (vs : List ℕ) (ek : kind ≡ get_or map.kind y 0) (ej : j ≡ get_or map.place v 0) (ev : vs ≡ part_of map y) where
+      zone_is : zone_at m (zone_of m v) ≡ record { kind = kind; vertices = vs }
+      zone_is = rw (ek, ev, to_zone) (h.zone_at_lem (zone_of m v) low)
 
-      size_is : n ≡ get_or map.size (zone_of m v) 0
-      size_is = en ∙ entry_is 64 0 map.size y h.long_size ∙ ap (λ (z : ℕ). get_or map.size z 0) to_zone
-
-      -- the zone that is entered is a part of the listing
-      pub part_fits : a + n ≤ 128
-      part_fits = omega (arith, first_is, size_is, h.inside (zone_of m v) low)
-
-      zone_is : zone_at m (zone_of m v) ≡ record { kind = kind; vertices = take n (drop a map.listed) }
-      zone_is = rw (kind_is, first_is, size_is) (h.zone_at_lem (zone_of m v) low)
-
-      to_place_lem : j ≡ index_of v (zone_at m (zone_of m v)).vertices
-      to_place_lem = ej ∙ entry_is 128 0 map.place v h.long_place ∙ h.place_of_lem v
+      to_place_lem : j ≡ index_of v vs
+      to_place_lem = ej ∙ h.place_of_lem v ∙ ap (λ (z : Zone). index_of v z.vertices) zone_is
 
       -- and `to` has a place there
-      pub place_low : j < n
-      place_low =
-          let l : length (take n (drop a map.listed)) ≡ n = length-take-le n (drop a map.listed) (rw length-drop (omega (arith, h.long_listed, part_fits))) in
-          omega (arith, at.place, to_place_lem, ap (λ (z : Zone). length z.vertices) zone_is)
-
-      listing_part : part_of map.listed a (a + n) ≡ take n (drop a map.listed)
-      listing_part = part_is map.listed a n (omega (arith, h.long_listed, part_fits))
-
-      -- the zone is as long as the tables say
-      pub part_whole : (vs : List ℕ) → vs ≡ part_of map.listed a (a + n) → length vs ≡ n
-      part_whole vs e = ap length (e ∙ listing_part) ∙ length-take-le n (drop a map.listed) (rw length-drop (omega (arith, h.long_listed, part_fits)))
+      pub place_low : j < length vs
+      place_low = omega (arith, at.place, to_place_lem, ap (λ (z : Zone). index_of v z.vertices) zone_is, ap (λ (z : Zone). length z.vertices) zone_is)
 
       -- a move between zones, whose step is laid
-      pub drawn_crossing : (s : State) (r : ℕ) (d : Drawn) (o : List ℕ) → (x ≡ y → ⊥) → (behind : ℕ) (filled : Bool) (vs : List ℕ) (bytes : ℕ) (o' : List ℕ) → vs ≡ part_of map.listed a (a + n)
+      pub drawn_crossing : (s : State) (r : ℕ) (d : Drawn) (o : List ℕ) → (x ≡ y → ⊥) → (behind : ℕ) (filled : Bool) (bytes : ℕ) (o' : List ℕ)
           → behind ≡ behind_of kind (arrangement_of s vs) j → filled ≡ (eqb kind 3 and last_free (arrangement_of s vs))
           → bytes ≡ d.bytes + length (step_from s vs j r u v behind filled) → o' ≡ laid_all o d.bytes (step_from s vs j r u v behind filled)
           → MoveDrawn m s (mv r u v) d o (record { steps = d.steps + 1; bytes = bytes }) o'
-      drawn_crossing s r d o ne behind filled vs bytes o' ev eb ef eby eo =
-          let ez : zone_at m (zone_of m v) ≡ record { kind = kind; vertices = vs } = rw (ev ∙ listing_part) zone_is in
-          let w = step_is m s r u v kind j behind vs filled ez (to_place_lem ∙ ap (λ (z : Zone). index_of v z.vertices) ez) eb ef in
+      drawn_crossing s r d o ne behind filled bytes o' eb ef eby eo =
+          let w = step_is m s r u v kind j behind vs filled zone_is to_place_lem eb ef in
           record {
-            inside = λ z. absurd (ne (from_zone ∙ z ∙ sym to_zone));
+            inside = λ z. absurd (ne (ex ∙ h.zone_of_lem u ∙ z ∙ sym to_zone));
             crossing = λ z. (refl, eby ∙ ap (λ (l : List ℕ). d.bytes + length l) w, eo ∙ ap (laid_all o d.bytes) w);
           }
 
--- a state in which the robots stand so draws the same
-pub drawn_same : (m : Map) (robots vertices : List ℕ) (s : State) (x : Move) (d : Drawn) (o : List ℕ) (q : Drawn) (o' : List ℕ) → tabled robots vertices ≡ s
-    → MoveDrawn m (on_vertices robots) x d o q o' → MoveDrawn m s x d o q o'
-drawn_same m robots vertices s x d o q o' e y =
-    let w : step_of m s x ≡ step_of m (on_vertices robots) x = ap (λ (t : State). step_of m t x) (sym e) ∙ sym (step_alone m robots vertices x) in
-    record { inside = y.inside; crossing = λ z. rw w (y.crossing z) }
+-- a zone has at most 128 vertices
+pub part_short : (map : MapTables) (y : ℕ) (vs : List ℕ) → HasPart map y → vs ≡ part_of map y → length vs ≤ 128
+part_short map y vs h e = omega (arith, h.inside, ap length e, length-take (get_or map.size y 0) (drop (get_or map.first y 0) map.listed))
 
 step_most_lem : (s : State) (vs : List ℕ) (j r u v behind : ℕ) (filled : Bool) → length (step_from s vs j r u v behind filled) ≤ 4 + length vs
 unfolding step_from
@@ -229,18 +167,6 @@ step_near s vs j r u v behind filled bytes off e h = omega (arith, step_most_lem
 -- the moves end on vertices of the map
 abbrev pub EndsOn : Map → (ℕ → ℕ) → ℕ → Type 0
 EndsOn m byte n = (i : ℕ) → i < n → (move_by byte i).to < m.size
-
--- robot 255 goes from no vertex to none: no move
-unmoved : (robots vertices : List ℕ) → length robots ≤ 255 → length vertices ≤ 255 → moved (tabled robots vertices) (mv 255 255 255) ≡ tabled robots vertices
-unfolding moved
-unmoved robots vertices h g =
-    let l : length (set robots 255 255) ≡ length robots = length-set robots 255 255 in
-    ap₂ tabled (set_out (set robots 255 255) 255 255 (omega arith) ∙ set_out robots 255 255 h) (set_out vertices 255 255 g)
-
--- nothing is drawn yet, and no move is to be made
-pub drawing_first : (m : Map) (byte : ℕ → ℕ) (n : ℕ) (robots vertices o : List ℕ) → length robots ≤ 255 → length vertices ≤ 255
-    → Drawing m byte n (tabled robots vertices) o 0 (moved (tabled robots vertices) (mv 255 255 255)) 0 2 o
-drawing_first m byte n robots vertices o h g = rw (unmoved robots vertices h g) (drawing_start m byte n (tabled robots vertices) o)
 
 -- a move's drawing takes the whole one step on
 pub drawing_next : (m : Map) (byte : ℕ → ℕ) (n : ℕ) (s₀ : State) (o₀ : List ℕ) (i : ℕ) (s t : State) (d q : Drawn) (o o' : List ℕ) (x : Move)
@@ -262,9 +188,9 @@ pub record AllDrawn (m : Map) (byte : ℕ → ℕ) (n : ℕ) (s : State) (o : Li
   pub size : q.bytes ≡ 2 + length (step_bytes (drawn_steps m s (moves_by byte 0 n)))
   pub buffer : o' ≡ laid_all o 2 (step_bytes (drawn_steps m s (moves_by byte 0 n)))
 
-pub all_drawn : (m : Map) (byte : ℕ → ℕ) (n : ℕ) (s₀ : State) (o₀ : List ℕ) (i : ℕ) (s : State) (q : Drawn) (o : List ℕ) (s₁ : State)
-    → Drawing m byte n s₀ o₀ i s q.steps q.bytes o → n ≤ i → s₀ ≡ s₁ → AllDrawn m byte n s₁ o₀ q o
-all_drawn m byte n s₀ o₀ i s q o s₁ w h d =
+pub all_drawn : (m : Map) (byte : ℕ → ℕ) (n : ℕ) (s₀ : State) (o₀ : List ℕ) (i : ℕ) (s : State) (q : Drawn) (o : List ℕ)
+    → Drawing m byte n s₀ o₀ i s q.steps q.bytes o → n ≤ i → AllDrawn m byte n s₀ o₀ q o
+all_drawn m byte n s₀ o₀ i s q o w h =
     let z = drawing_end m byte n s₀ o₀ i s q.steps q.bytes o w h in
     let e : n - 0 ≡ n = omega arith in
-    rw (← d) (record { count = rw e at z.0; size = rw e at z.1; buffer = rw e at z.2 })
+    record { count = rw e at z.0; size = rw e at z.1; buffer = rw e at z.2 }

@@ -44,16 +44,6 @@ module _ (n size x r : ℕ) where
 
 -- ---- by kind
 
--- cliques and rings are pinned: a clique
-pub clique_pinned : (kind : ℕ) → kind ≡ 3 → true ≡ by_kind kind true true false
-clique_pinned kind e = rw e
-
--- another zone, where it is a ring
-pub ring_pinned : {kind : ℕ} → KindOf kind → (kind ≡ 3 → ⊥) → eqb kind 4 ≡ by_kind kind true true false
-ring_pinned clique h = absurd (h refl)
-ring_pinned ring h = refl
-ring_pinned {kind} (hall i) h = ne_eqb kind 4 i.four ∙ sym (as_hall i true true false)
-
 -- a clique's or ring's answer is chosen where the zone is pinned
 pub chosen_pinned : {kind : ℕ} {b : Bool} → KindOf kind → (x z : Bool) → b ≡ true → b ≡ by_kind kind true true false → x ≡ by_kind kind x x z
 chosen_pinned clique x z h e = refl

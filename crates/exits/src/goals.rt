@@ -1,9 +1,11 @@
 // The goals of a zone tested by the list of its robots, the first n of a part.
 ghost use Rattle.std.specs.Prelude.{◌≡◌, ◌≤◌, length, take};
 ghost use Rattle.spec.specs.Ring.{turned};
+ghost use Rattle.numbering.specs.Kind.{number_of};
 ghost use Rattle.orders.specs.Orders.{end_test};
 
 use comparing::same_cells;
+use numbering::ZoneKind;
 use rosters::finding::index_in;
 use rosters::members::same_members;
 
@@ -22,17 +24,17 @@ fn is_turned(list: &[u8], goal: &mut [u8]) -> bool
 }
 
 // Are the goals, whose robots in order are `goal`, in the configuration? A ring's are turned in their bytes.
-pub fn can_end(kind: u8, part: &[u8], n: usize, size: usize, goal: &mut [u8]) -> bool
+pub fn can_end(kind: ZoneKind, part: &[u8], n: usize, size: usize, goal: &mut [u8]) -> bool
     requires { (n ≤ size) × (size ≤ length part.now) × (length goal.old ≤ 128) }
-    ensures { result ≡ end_test kind size (take n part.now) goal.old }
+    ensures { result ≡ end_test (number_of kind) size (take n part.now) goal.old }
 {
     let list = &part[..n];
     if n == size {
         return same_cells(list, goal);
     }
     match kind {
-        3 => same_members(list, goal),
-        4 => is_turned(list, goal),
+        ZoneKind::Clique => same_members(list, goal),
+        ZoneKind::Ring => is_turned(list, goal),
         _ => same_cells(list, goal),
     }
 }

@@ -34,7 +34,7 @@ fn send(
     made
 }
 
-// "Moving to given hall places": each robot of the line from its place to its goal. "Carts going lower, lowest first, each all its way, then carts
+// "Moving to given hall places": each robot of the line from its place to its goal, "carts going lower, lowest first, each all its way, then carts
 // going higher, highest first".
 pub fn settle(
     state: &mut State,

@@ -1,6 +1,6 @@
 -- The lists as a state has them: each zone's is the order of its arrangement.
-use Rattle.std.specs.Prelude.{◌≡◌, Bool, List, [], ◌++◌, ℕ, ◌+◌, ◌-◌, ◌≤◌, ◌<◌, length, get_or, set, take, drop, eqb}
-use Rattle.std.proofs.Common.{sym, ap, ◌∙◌, append-nil, length-drop, drop_of_length-le, length-take-le}
+use Rattle.std.specs.Prelude.{◌≡◌, Bool, List, [], ℕ, ◌+◌, ◌-◌, ◌≤◌, ◌<◌, length, get_or, set, take, drop, eqb}
+use Rattle.std.proofs.Common.{sym, ap, ◌∙◌, length-drop, length-take-le}
 use Rattle.std.proofs.Math.Bool.{true, false}
 use native.Mathlib.Omega.{arith}
 use Rattle.std.proofs.Math.Decide.{ℕ_discrete}
@@ -21,9 +21,8 @@ use Rattle.walking.specs.Tables.{vertices_in}
 use Rattle.lineup.specs.Line.{Lined}
 use Rattle.orders.specs.Packed.{holds_order}
 use Rattle.walking.specs.Given.{Given, HasZone, part}
-use Rattle.rosters.specs.Lists.{Rewritten}
-use Rattle.testing.specs.Held.{list_in, Held, Changed, changed_part, size_is, list_here, list_away, still_few}
-use Rattle.rosters.specs.Lists.{rest_is}
+use Rattle.rosters.specs.Lists.{Rewritten, wider}
+use Rattle.testing.specs.Held.{list_in, Held, Changed, changed_rest, rest_of, size_is, list_here, list_away, still_few}
 use Rattle.judge.specs.Making.{Listed}
 
 -- ---- one zone's list
@@ -57,25 +56,19 @@ module _ (first size listed : List ℕ) (z : ℕ) (has : HasZone first size list
     lined_count : length (take n rs) ≡ n
     lined_count = length-take-le n rs fits
 
-    module _ (cells : List ℕ) (room : length cells ≡ length listed) where
+    module _ (cells : List ℕ) (room : length cells ≡ length listed) (w : ℕ) (row : length cells ≡ w) where
       -- it fits into the rest of the row
-      pub lined_fits : length (take n rs) ≤ length (take (length cells - get_or first z 0) (drop (get_or first z 0) cells))
-      lined_fits = omega (arith, lined_count, lined_few, room, has.fits, ap length (rest_is (get_or first z 0) cells), length-drop (get_or first z 0) cells)
+      pub lined_fits : length (take n rs) ≤ length (take (w - get_or first z 0) (drop (get_or first z 0) cells))
+      lined_fits = omega (arith, lined_count, lined_few, room, has.fits, ap length (rest_of (get_or first z 0) w cells row), length-drop (get_or first z 0) cells)
 
       -- the zone's list is written to the rest of the row that was lent
-      pub filled_zone : (counts rest : List ℕ) → Rewritten (take (length cells - get_or first z 0) (drop (get_or first z 0) cells)) (length (take n rs)) (take n rs) rest
-          → Listed first size counts cells z robots (set counts z n) (put_mid (get_or first z 0) (length cells - get_or first z 0) cells rest)
-      filled_zone counts rest w =
+      pub filled_zone : (counts rest : List ℕ) → Rewritten (take (w - get_or first z 0) (drop (get_or first z 0) cells)) (length (take n rs)) (take n rs) rest
+          → Listed first size counts cells z robots (set counts z n) (put_mid (get_or first z 0) (w - get_or first z 0) cells rest)
+      filled_zone counts rest r =
           let a : ℕ = get_or first z 0 in
-          let wide : Rewritten (drop a cells) (get_or size z 0) (take n rs) rest = record {
-            long = w.long ∙ ap length (rest_is a cells);
-            here = w.here;
-            past = λ i l. w.past i (omega (arith, lined_count, lined_few)) ∙ ap (λ (x : List ℕ). get_or x i 0) (rest_is a cells);
-          } in
-          let none : drop (length cells - a) (drop a cells) ≡ [] = drop_of_length-le (drop a cells) {i = length cells - a} (omega (arith, length-drop a cells)) in
-          let new : put_mid a (length cells - a) cells rest ≡ take a cells ++ rest = ap (λ (x : List ℕ). take a cells ++ x) (ap (λ (x : List ℕ). rest ++ x) none ∙ append-nil rest) in
+          let wide : Rewritten (take (w - a) (drop a cells)) (get_or size z 0) (take n rs) rest = wider _ (omega (arith, lined_count, lined_few)) r in
           rw (← lined_order) (record {
-            change = changed_part cells a (get_or size z 0) (take n rs) rest _ (omega (arith, room, has.fits)) new wide;
+            change = changed_rest cells a (get_or size z 0) w (λ (x : List ℕ). take n rs) rest row (omega (arith, room, row, has.fits)) wide;
             count = ap (set counts z) (sym lined_count);
           })
 
@@ -85,10 +78,6 @@ module _ (first size listed : List ℕ) (z : ℕ) (has : HasZone first size list
 pub record Filled (m : Map) (first counts cells : List ℕ) (s : State) (i : ℕ) : Type 0 where
   pub lists : (y : ℕ) → y < i → y < zone_count m → list_in first counts cells y ≡ order (arrangement_in m s y)
   pub few : (y : ℕ) → y < zone_count m → get_or counts y 0 ≤ size_of m y
-
--- none is filled yet
-pub filled_none : (m : Map) (first counts cells : List ℕ) (s : State) → ((z : ℕ) → get_or counts z 0 ≡ 0) → Filled m first counts cells s 0
-filled_none m first counts cells s h = record { lists = λ y l b. absurd (omega arith); few = λ y b. omega (arith, h y) }
 
 module _ (m : Map) (n k : ℕ) (kind first size listed zone place : List ℕ) (rows : List (List ℕ)) (d : Given m n k kind first size listed zone place rows)
     (s : State) (counts cells counts' new : List ℕ) (i : ℕ) (room : length cells ≡ length listed) (many : length counts ≡ 64) (h : i < zone_count m) (f : Filled m first counts cells s i)

@@ -19,6 +19,7 @@ ghost use Rattle.judge.specs.Making.{Listed};
 use lineup::line::line_up;
 use motion::State;
 use rosters::lists::store;
+use testing::Lists;
 
 // Writes zone z's list: its robots in order, and their number.
 fn fill_zone<'a>(
@@ -27,19 +28,18 @@ fn fill_zone<'a>(
     size: &'a [u8; 64],
     listed: &'a [u8],
     z: usize,
-    cells: &mut [u8],
-    counts: &mut [u8; 64],
+    lists: &mut Lists,
 )
-    requires { HasZone first.now size.now listed.now z × (length cells.old ≡ length listed.now) }
-    ensures { Listed first.now size.now counts.old cells.old z (order (meaning.arrangement_of (on_vertices on.now) (vertices_in first.now size.now listed.now z))) counts.new cells.new }
+    requires { HasZone first.now size.now listed.now z × (length lists.old.cells ≡ length listed.now) }
+    ensures { Listed first.now size.now lists.old.counts lists.old.cells z (order (meaning.arrangement_of (on_vertices on.now) (vertices_in first.now size.now listed.now z))) lists.new.counts lists.new.cells }
 {
     let a = first[z] as usize;
     let e = a + size[z] as usize;
     let mut robots = [0u8; 128];
     let mut places = [0u8; 128];
     let n = line_up(on, &listed[a..e], &mut robots, &mut places);
-    store(&mut cells[a..], &robots[..n]);
-    counts[z] = n as u8;
+    store(&mut lists.cells[a..], &robots[..n]);
+    lists.counts[z] = n as u8;
 }
 
 // Writes every zone's list; the counts are all zero before.
@@ -49,16 +49,15 @@ pub fn fill_lists<'a>(
     size: &'a [u8; 64],
     listed: &'a [u8],
     zones: usize,
-    cells: &mut [u8],
-    counts: &mut [u8; 64],
+    lists: &mut Lists,
 )
-    requires { ((z : ℕ) → z < zones → HasZone first.now size.now listed.now z) × (length cells.old ≡ length listed.now) × (length counts.old ≡ 64) × ((z : ℕ) → get_or counts.old z 0 ≡ 0) }
-    ensures { (length cells.new ≡ length listed.now) × (length counts.new ≡ 64) × ((m : Map) (n k : ℕ) (kind zone place : List ℕ) (rows : List (List ℕ)) → Given m n k kind first.now size.now listed.now zone place rows → zone_count m ≡ zones → Consistent m k (state_of s) → Held m first.now counts.new cells.new (state_of s)) }
+    requires { ((z : ℕ) → z < zones → HasZone first.now size.now listed.now z) × (length lists.old.cells ≡ length listed.now) × (length lists.old.counts ≡ 64) × ((z : ℕ) → get_or lists.old.counts z 0 ≡ 0) }
+    ensures { (length lists.new.cells ≡ length listed.now) × (length lists.new.counts ≡ 64) × ((m : Map) (n k : ℕ) (kind zone place : List ℕ) (rows : List (List ℕ)) → Given m n k kind first.now size.now listed.now zone place rows → zone_count m ≡ zones → Consistent m k (state_of s) → Held m first.now lists.new.counts lists.new.cells (state_of s)) }
 {
     let mut on = [255u8; 128];
     motion::robots_of(s, &mut on);
     for z in 0..zones {
-        fill_zone(&on, first, size, listed, z, cells, counts);
+        fill_zone(&on, first, size, listed, z, lists);
     }
 }
 
@@ -69,21 +68,20 @@ fn ends_zone<'a>(
     size: &'a [u8; 64],
     listed: &'a [u8],
     z: usize,
-    cells: &[u8],
-    counts: &[u8; 64],
+    lists: &Lists,
     goals: &[u8],
 ) -> bool
-    requires { HasZone first.now size.now listed.now z × HasList first.now size.now counts.now cells.now z }
-    ensures { result ≡ end_test (get_or kind.now z 0) (get_or size.now z 0) (list_in first.now counts.now cells.now z) (order (meaning.arrangement_of (on_vertices goals.now) (vertices_in first.now size.now listed.now z))) }
+    requires { HasZone first.now size.now listed.now z × HasList first.now size.now lists.now.counts lists.now.cells z }
+    ensures { result ≡ end_test (get_or kind.now z 0) (get_or size.now z 0) (list_in first.now lists.now.counts lists.now.cells z) (order (meaning.arrangement_of (on_vertices goals.now) (vertices_in first.now size.now listed.now z))) }
 {
     let a = first[z] as usize;
     let m = size[z] as usize;
     let e = a + m;
-    let count = counts[z] as usize;
+    let count = lists.counts[z] as usize;
     let mut robots = [0u8; 128];
     let mut places = [0u8; 128];
     let n = line_up(goals, &listed[a..e], &mut robots, &mut places);
-    exits::goals::can_end(kind[z], &cells[a..], count, m, &mut robots[..n])
+    exits::goals::can_end(kind[z], &lists.cells[a..], count, m, &mut robots[..n])
 }
 
 // The lowest zone that can't be brought to its goals.
@@ -93,14 +91,13 @@ pub fn off_zone<'a>(
     size: &'a [u8; 64],
     listed: &'a [u8],
     zones: usize,
-    cells: &[u8],
-    counts: &[u8; 64],
+    lists: &Lists,
     goals: State,
 ) -> Option<usize>
-    requires { ((z : ℕ) → z < zones → HasZone first.now size.now listed.now z) × ((z : ℕ) → z < zones → HasList first.now size.now counts.now cells.now z) }
-    ensures { (m : Map) (n k : ℕ) (zone place : List ℕ) (rows : List (List ℕ)) → Given m n k kind.now first.now size.now listed.now zone place rows → zone_count m ≡ zones → (s : meaning.State) → Consistent m k s → Held m first.now counts.now cells.now s → off_zone result ≡ goals_from 0 m.zones s (state_of goals) }
+    requires { ((z : ℕ) → z < zones → HasZone first.now size.now listed.now z) × ((z : ℕ) → z < zones → HasList first.now size.now lists.now.counts lists.now.cells z) }
+    ensures { (m : Map) (n k : ℕ) (zone place : List ℕ) (rows : List (List ℕ)) → Given m n k kind.now first.now size.now listed.now zone place rows → zone_count m ≡ zones → (s : meaning.State) → Consistent m k s → Held m first.now lists.now.counts lists.now.cells s → off_zone result ≡ goals_from 0 m.zones s (state_of goals) }
 {
     let mut targets = [255u8; 128];
     motion::robots_of(goals, &mut targets);
-    (0..zones).find(|z| !ends_zone(kind, first, size, listed, *z, cells, counts, &targets))
+    (0..zones).find(|z| !ends_zone(kind, first, size, listed, *z, lists, &targets))
 }

@@ -9,7 +9,7 @@ ghost use Rattle.judge.specs.Judging.{JudgedTo};
 
 use crate::ending::{fill_lists, off_zone};
 use crate::walk::walk;
-use testing::PlanFault;
+use testing::{Lists, PlanFault};
 
 // Judges the plan whose payload, of `len` bytes, stands in a checked file.
 pub fn judge_plan<'a>(
@@ -38,29 +38,18 @@ pub fn judge_plan<'a>(
     let count = wire::payload_word(file, 0);
     let s = motion::standing(starts, k);
     let g = motion::standing(goals, k);
-    let mut cells = [0u8; 128];
-    let mut counts = [0u8; 64];
-    fill_lists(s, first, size, listed, zones, &mut cells, &mut counts);
+    let mut lists = Lists {
+        cells: [0u8; 128],
+        counts: [0u8; 64],
+    };
+    fill_lists(s, first, size, listed, zones, &mut lists);
     let next = walk(
-        file,
-        len,
-        count,
-        kind,
-        first,
-        size,
-        listed,
-        zone,
-        place,
-        rows,
-        n,
-        k,
-        &mut cells,
-        &mut counts,
+        file, len, count, kind, first, size, listed, zone, place, rows, n, k, &mut lists,
     )?;
     if next != len {
         return Err(PlanFault::Short(count));
     }
-    match off_zone(kind, first, size, listed, zones, &cells, &counts, g) {
+    match off_zone(kind, first, size, listed, zones, &lists, g) {
         Some(z) => Err(PlanFault::Goal(z)),
         None => Ok(()),
     }

@@ -1,6 +1,8 @@
 -- The test that no edge leads out of a stack but from its first vertex is the definition's.
-use Rattle.std.specs.Prelude.{ℕ, ◌+◌, ◌-◌, ◌≤◌, ◌<◌, min, max, ◌≡◌, refl, ◌⊎◌, Bool, List, [], ◌∷◌, get_or}
-use Rattle.std.proofs.Common.{ap, ap₂, sym, ◌∙◌, inl, inr, eq-eqb, eqb-true, arith}
+use Rattle.std.specs.Prelude.{ℕ, ◌+◌, ◌-◌, ◌≤◌, ◌<◌, min, max, ◌≡◌, refl, ◌⊎◌, Bool, List, [], ◌∷◌, get_or, drop}
+use Rattle.std.proofs.Common.{ap, ap₂, sym, ◌∙◌, inl, inr, eq-eqb, eqb-true, get_or-drop, length-drop, arith}
+use Rattle.std.proofs.lemmas.List.{get_or_default}
+use Rattle.std.proofs.lemmas.List.Sums.{AllPass-from_list_all, list_all-from_AllPass}
 use Rattle.std.proofs.Math.Bool.{true, false, not}
 use Rattle.std.proofs.Math.ListN.{length}
 use Rattle.std.proofs.Math.Dec.{eqb}
@@ -10,8 +12,7 @@ use Rattle.spec.specs.Layout.{Edge, Map, has_edge, same_bool, closed}
 use Rattle.theory.specs.Basics.Tests.{below_at, true_of, of_true}
 use Rattle.theory.specs.Basics.Lists.{index_in, in_get_d}
 use Rattle.adjacency.specs.Rows.{bit_at, Shows, shows_joined, same_test, and_true, or_true, or_left, or_right, both, lt_or_ge}
-use Rattle.kinds.specs.Tests.{stays_test, inner_test, later_test, closed_test, below_all}
-use Rattle.kinds.specs.Shape.{part, part_length, part_at}
+use Rattle.kinds.specs.Tests.{same_true, same_false, stays_test, inner_test, closed_test, below_all}
 
 -- the definition's test of an edge between a and b
 abbrev edge_test : List ℕ → ℕ → ℕ → Bool
@@ -57,18 +58,6 @@ has_every : (g : ℕ → ℕ → Bool) (es : List Edge) → ((a b : ℕ) → has
 unfolding all
 has_every g [] h = refl
 has_every g (e ∷ es) h = rw (h e.a e.b (has_first e es), all) (has_every g es (λ a b q. h a b (has_more e es a b q)))
-
-same_true : (x y : Bool) → x ≡ y → same_bool x y ≡ true
-unfolding same_bool
-same_true true y e = rw (← e)
-same_true false y e = rw (← e)
-
-same_false : (x y : Bool) → same_bool x y ≡ true → x ≡ y
-unfolding same_bool
-same_false true true e = refl
-same_false true false e = sym e
-same_false false true e = e
-same_false false false e = refl
 
 not_true_of : (b : Bool) → not b ≡ true → b ≡ false
 not_true_of true e = sym e
@@ -169,22 +158,16 @@ module _ (rows : List (List ℕ)) (m : Map) (vs zone : List ℕ) (z : ℕ) (s : 
               let q : max (get_or vs i 0) u ≡ get_or vs i 0 = omega arith in
               f.1 (every_has (edge_test vs) m.edges t u (get_or vs i 0) (sym (ap₂ (has_edge m.edges) p q) ∙ sym (shows_joined rows m.edges s (get_or vs i 0) u) ∙ b))
 
--- the test on the rows is the definition's, whatever the size
-pub closed_is : (rows : List (List ℕ)) (m : Map) (listed zone : List ℕ) (z first size kind : ℕ) → first + size ≤ length listed → Shows rows m.edges
-    → Stack m (part listed first size) zone z
-    → closed_test rows listed zone z first size ≡ closed m (record { kind = kind; vertices = part listed first size })
+-- the test on the rows is the definition's
+pub closed_is : (rows : List (List ℕ)) (m : Map) (vs zone : List ℕ) (z kind : ℕ) → Shows rows m.edges → Stack m vs zone z
+    → closed_test rows vs zone z ≡ closed m (record { kind = kind; vertices = vs })
 unfolding closed
-closed_is rows m listed zone z first size kind h s k =
-    same_test (closed_test rows listed zone z first size) (every (edge_test (part listed first size)) m.edges)
-    (λ t. later_closed rows m (part listed first size) zone z s k (λ i g l. into t i g (omega (arith, n))))
-    (λ t. below_all (later_test rows listed zone z first) (size - 1) (λ i l. ap (inner_test rows zone z) (sym (part_at listed first size h (i + 1) (omega arith)))
-    ∙ closed_later rows m (part listed first size) zone z s k t (i + 1) (omega arith) (omega (arith, n))))
-  where
-    n : length (part listed first size) ≡ size
-    n = part_length listed first size h
-
-    into : closed_test rows listed zone z first size ≡ true → (i : ℕ) → 0 < i → i < size → inner_test rows zone z (get_or (part listed first size) i 0) ≡ true
-    into t i g l =
-        let e : i - 1 + 1 ≡ i = omega arith in
-        ap (inner_test rows zone z) (part_at listed first size h i l ∙ ap (λ (x : ℕ). get_or listed (first + x) 0) (sym e))
-        ∙ true_of (below_at (later_test rows listed zone z first) (size - 1) (of_true t) (i - 1) (omega arith))
+closed_is rows m vs zone z kind s k =
+    same_test (closed_test rows vs zone z) (every (edge_test vs) m.edges)
+    (λ t. later_closed rows m vs zone z s k (λ i g l.
+    let e : 1 + (i - 1) ≡ i = omega arith in
+    ap (λ (x : ℕ). inner_test rows zone z (get_or vs x 0)) (sym e) ∙ ap (inner_test rows zone z) (sym (get_or-drop 1 vs (i - 1) 0))
+    ∙ AllPass-from_list_all (inner_test rows zone z) (drop 1 vs) t (i - 1) 0 (omega (arith, length-drop 1 vs))))
+    (λ t. list_all-from_AllPass (inner_test rows zone z) (drop 1 vs) (λ i d l.
+    let e : 1 + i ≡ i + 1 = omega arith in
+    ap (inner_test rows zone z) (get_or_default (drop 1 vs) i d 0 l ∙ get_or-drop 1 vs i 0 ∙ ap (λ (x : ℕ). get_or vs x 0) e) ∙ closed_later rows m vs zone z s k t (i + 1) (omega arith) (omega (arith, length-drop 1 vs))))

@@ -1,5 +1,6 @@
 -- Vertices marked in two words, and two tests of a row against them: it has none of the vertices, or each of them.
-use Rattle.std.specs.Prelude.{ℕ, zero, suc, ◌+◌, ◌-◌, ◌*◌, ◌/◌, ◌%◌, ◌^◌, ◌≤◌, ◌<◌, min, max, ◌≡◌, refl, ◌⊎◌, Bool, not, List, [], get_or, eqb, ltb}
+use Rattle.std.specs.Prelude.{ℕ, zero, suc, ◌+◌, ◌-◌, ◌*◌, ◌/◌, ◌%◌, ◌^◌, ◌≤◌, ◌<◌, min, max, ◌≡◌, refl, ◌⊎◌, Bool, not, ◌&&◌, List, [], ◌∷◌, get_or, eqb, ltb}
+use Rattle.std.specs.List.{list_all}
 use Rattle.std.proofs.Math.Path.{ap, sym}
 use Rattle.std.proofs.Common.{ap₂, ◌∙◌, inl, inr, pow-suc, arith}
 use Rattle.std.proofs.Math.Bool.{true, false}
@@ -211,3 +212,8 @@ module _ (rows : List (List ℕ)) (zone : List ℕ) (z v : ℕ) where
       go : (v < 128) ⊎ (128 ≤ v) → apart_test rows (out_from zone z 0 64) (out_from zone z 64 64) v ≡ inner_test rows zone z v
       go (inl h) = apart_in rows (out_from zone z 0 64) (out_from zone z 64 64) v h ∙ one_by_one (none_test (get_or (get_or rows v []) 0 0) (out_from zone z 0 64)) h refl
       go (inr h) = apart_out rows (out_from zone z 0 64) (out_from zone z 64 64) v h ∙ inner_out rows zone z v h
+
+-- and so for a list of vertices
+pub apart_closed : (rows : List (List ℕ)) (zone : List ℕ) (z : ℕ) (vs : List ℕ) → list_all (apart_test rows (out_from zone z 0 64) (out_from zone z 64 64)) vs ≡ list_all (inner_test rows zone z) vs
+apart_closed rows zone z [] = refl
+apart_closed rows zone z (v ∷ vs) = ap₂ ◌&&◌ (apart_zone rows zone z v _ _ refl refl) (apart_closed rows zone z vs)

@@ -2,7 +2,7 @@
 use Prim.Native.Nat.{ℕ, ◌+◌, ◌≤◌, ◌<◌, min, max}
 use Rattle.std.specs.Prelude.{◌≡◌, List, length, get_or, take, drop}
 use Rattle.std.proofs.Math.Path.{ap}
-use Rattle.std.proofs.Common.{ap₂, sym, ◌∙◌, length-drop, get_or-take, get_or-drop, length-take-le, arith}
+use Rattle.std.proofs.Common.{ap₂, ◌∙◌, length-drop, get_or-take, get_or-drop, length-take-le, arith}
 use Rattle.std.proofs.Math.Bool.{Bool}
 use Rattle.std.proofs.Math.Nat.{min_comm, max_comm}
 use Rattle.spec.specs.Outcome.{below}
@@ -21,21 +21,14 @@ module _ (listed : List ℕ) (first size : ℕ) (inside : first + size ≤ lengt
   pub part_at : (i : ℕ) → i < size → get_or (part listed first size) i 0 ≡ get_or listed (first + i) 0
   part_at i h = get_or-take size (drop first listed) i 0 h ∙ get_or-drop first listed i 0
 
-  -- the test on the rows is the definition's, whatever the size
-  pub shape_is : (rows : List (List ℕ)) (m : Map) (kind : ℕ) → Shows rows m.edges
-      → shape_test rows listed first kind size ≡ shaped m (record { kind = kind; vertices = part listed first size })
-  unfolding shaped joined
-  shape_is rows m kind s =
-      below_same (row_test rows listed first kind size) (row size) size (λ j q. below_same (pair_test rows listed first kind size j) (pair size j) j (λ i r. one i j (omega arith) q))
-      ∙ ap (λ (x : ℕ). below (row x) x) (sym part_length)
-    where
-      pair : ℕ → ℕ → ℕ → Bool
-      pair x j i = same_bool (has_edge m.edges (min (get_or (part listed first size) i 0) (get_or (part listed first size) j 0)) (max (get_or (part listed first size) i 0) (get_or (part listed first size) j 0))) (linked kind x i j)
+-- the test on the rows is the definition's
+pub shape_is : (rows : List (List ℕ)) (m : Map) (vs : List ℕ) (kind : ℕ) → Shows rows m.edges → shape_test rows vs kind ≡ shaped m (record { kind = kind; vertices = vs })
+unfolding shaped joined
+shape_is rows m vs kind s = below_same (row_test rows vs kind) (λ j. below (pair j) j) (length vs) (λ j q. below_same (pair_test rows vs kind j) (pair j) j (λ i r. one i j))
+  where
+    pair : ℕ → ℕ → Bool
+    pair j i = same_bool (has_edge m.edges (min (get_or vs i 0) (get_or vs j 0)) (max (get_or vs i 0) (get_or vs j 0))) (linked kind (length vs) i j)
 
-      row : ℕ → ℕ → Bool
-      row x j = below (pair x j) j
-
-      one : (i j : ℕ) → i < size → j < size → pair_test rows listed first kind size j i ≡ pair size j i
-      one i j p q = ap (λ (b : Bool). same_bool b (linked kind size i j)) (shows_joined rows m.edges s (get_or listed (first + j) 0) (get_or listed (first + i) 0)
-          ∙ ap₂ (has_edge m.edges) (min_comm (get_or listed (first + j) 0) (get_or listed (first + i) 0)) (max_comm (get_or listed (first + j) 0) (get_or listed (first + i) 0))
-          ∙ ap₂ (λ (x y : ℕ). has_edge m.edges (min x y) (max x y)) (sym (part_at i p)) (sym (part_at j q)))
+    one : (i j : ℕ) → pair_test rows vs kind j i ≡ pair j i
+    one i j = ap (λ (b : Bool). same_bool b (linked kind (length vs) i j)) (shows_joined rows m.edges s (get_or vs j 0) (get_or vs i 0)
+        ∙ ap₂ (has_edge m.edges) (min_comm (get_or vs j 0) (get_or vs i 0)) (max_comm (get_or vs j 0) (get_or vs i 0)))

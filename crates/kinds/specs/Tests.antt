@@ -1,19 +1,21 @@
--- The kind tests as the code makes them, on the rows and the vertices of all zones one after the other.
-use Rattle.std.specs.Prelude.{ℕ, zero, suc, ◌+◌, ◌-◌, ◌<◌, ◌≡◌, refl, Bool, true, false, not, List, get_or, eqb, leb}
+-- The kind tests as the code makes them, on the rows.
+use Rattle.std.specs.Prelude.{ℕ, zero, suc, ◌+◌, ◌-◌, ◌<◌, ◌≡◌, refl, Bool, true, false, not, List, length, get_or, take, drop, eqb, leb}
+use Rattle.std.specs.List.{list_all}
+use mathlib.Core.Bool.{beq}
 use Rattle.std.proofs.Common.{ap, ap₂, sym, arith}
 use Rattle.spec.specs.Outcome.{◌and◌, ◌or◌, below}
 use Rattle.spec.specs.Layout.{linked, same_bool}
 use Rattle.adjacency.specs.Rows.{bit_at}
 
--- places i and j are joined as the kind has it
-abbrev pub pair_test : List (List ℕ) → List ℕ → ℕ → ℕ → ℕ → ℕ → ℕ → Bool
-pair_test rows listed first kind size j i = same_bool (bit_at rows (get_or listed (first + j) 0) (get_or listed (first + i) 0)) (linked kind size i j)
+-- places i and j of the vertices vs of a zone are joined as the kind has it
+abbrev pub pair_test : List (List ℕ) → List ℕ → ℕ → ℕ → ℕ → Bool
+pair_test rows vs kind j i = same_bool (bit_at rows (get_or vs j 0) (get_or vs i 0)) (linked kind (length vs) i j)
 
-abbrev pub row_test : List (List ℕ) → List ℕ → ℕ → ℕ → ℕ → ℕ → Bool
-row_test rows listed first kind size j = below (pair_test rows listed first kind size j) j
+abbrev pub row_test : List (List ℕ) → List ℕ → ℕ → ℕ → Bool
+row_test rows vs kind j = below (pair_test rows vs kind j) j
 
-abbrev pub shape_test : List (List ℕ) → List ℕ → ℕ → ℕ → ℕ → Bool
-shape_test rows listed first kind size = below (row_test rows listed first kind size) size
+abbrev pub shape_test : List (List ℕ) → List ℕ → ℕ → Bool
+shape_test rows vs kind = below (row_test rows vs kind) (length vs)
 
 -- v is not joined to u, or u is in zone z
 abbrev pub stays_test : List (List ℕ) → List ℕ → ℕ → ℕ → ℕ → Bool
@@ -22,35 +24,22 @@ stays_test rows zone z v u = eqb (get_or zone u 0) z or not (bit_at rows v u)
 abbrev pub inner_test : List (List ℕ) → List ℕ → ℕ → ℕ → Bool
 inner_test rows zone z v = below (stays_test rows zone z v) 128
 
--- the vertex at place k + 1 has no edge out of the zone
-abbrev pub later_test : List (List ℕ) → List ℕ → List ℕ → ℕ → ℕ → ℕ → Bool
-later_test rows listed zone z first k = inner_test rows zone z (get_or listed (first + (k + 1)) 0)
+-- no vertex but the first has an edge out of the zone
+abbrev pub closed_test : List (List ℕ) → List ℕ → List ℕ → ℕ → Bool
+closed_test rows vs zone z = list_all (inner_test rows zone z) (drop 1 vs)
 
-abbrev pub closed_test : List (List ℕ) → List ℕ → List ℕ → ℕ → ℕ → ℕ → Bool
-closed_test rows listed zone z first size = below (later_test rows listed zone z first) (size - 1)
-
-unfoldable pub stack_test : List (List ℕ) → List ℕ → List ℕ → ℕ → ℕ → ℕ → Bool
-stack_test rows listed zone z first size = shape_test rows listed first 1 size and closed_test rows listed zone z first size
+unfoldable pub stack_test : List (List ℕ) → List ℕ → List ℕ → ℕ → Bool
+stack_test rows vs zone z = shape_test rows vs 1 and closed_test rows vs zone z
 
 -- the test of a kind; other numbers are refused
-unfoldable pub test_of : List (List ℕ) → List ℕ → List ℕ → ℕ → ℕ → ℕ → ℕ → Bool
+unfoldable pub test_of : List (List ℕ) → List ℕ → List ℕ → ℕ → ℕ → Bool
 unfolding stack_test
-test_of rows listed zone z kind first size =
-    elim (eqb kind 1) [
-      | true ↦ stack_test rows listed zone z first size
-      | false ↦ elim (eqb kind 2) [
-        | true ↦ shape_test rows listed first 2 size
-        | false ↦ elim (eqb kind 3) [
-          | true ↦ shape_test rows listed first 3 size
-          | false ↦ elim (eqb kind 4) [ true ↦ shape_test rows listed first 4 size | false ↦ false ]
-        ]
-      ]
-    ]
+test_of rows vs zone z kind = elim (eqb kind 1) [ true ↦ stack_test rows vs zone z | false ↦ elim (leb 2 kind and leb kind 4) [ true ↦ shape_test rows vs kind | false ↦ false ] ]
 
 -- of a zone that is inside the listing
 unfoldable pub kind_test : List (List ℕ) → List ℕ → List ℕ → ℕ → ℕ → ℕ → ℕ → Bool
 unfolding test_of
-kind_test rows listed zone z kind first size = elim (leb (first + size) 128) [ true ↦ test_of rows listed zone z kind first size | false ↦ false ]
+kind_test rows listed zone z kind first size = elim (leb (first + size) 128) [ true ↦ test_of rows (take size (drop first listed)) zone z kind | false ↦ false ]
 
 -- a test of every number below n, from the last on
 pub below_more : (f : ℕ → Bool) (n : ℕ) → 0 < n → f (n - 1) ≡ true → below f n ≡ below f (n - 1)
@@ -75,12 +64,46 @@ unfolding below
 below_all f zero h = refl
 below_all f (suc n) h = rw (h n (omega arith), below) (below_all f n (λ i l. h i (omega arith)))
 
--- a stack is shaped, and closed
-pub stack_not : (rows : List (List ℕ)) (listed zone : List ℕ) (z first size : ℕ) → shape_test rows listed first 1 size ≡ false → false ≡ stack_test rows listed zone z first size
-unfolding stack_test ◌and◌
-stack_not rows listed zone z first size e = sym (ap (λ (b : Bool). b and closed_test rows listed zone z first size) e)
+-- equal tests are the same, and the other way round
+pub same_true : (x y : Bool) → x ≡ y → same_bool x y ≡ true
+unfolding same_bool
+same_true true y e = rw (← e)
+same_true false y e = rw (← e)
 
-pub stack_shaped : (rows : List (List ℕ)) (listed zone : List ℕ) (z first size : ℕ) → shape_test rows listed first 1 size ≡ true
-    → closed_test rows listed zone z first size ≡ stack_test rows listed zone z first size
-unfolding stack_test ◌and◌
-stack_shaped rows listed zone z first size e = sym (ap (λ (b : Bool). b and closed_test rows listed zone z first size) e)
+pub same_false : (x y : Bool) → same_bool x y ≡ true → x ≡ y
+unfolding same_bool
+same_false true true e = refl
+same_false true false e = sym e
+same_false false true e = e
+same_false false false e = refl
+
+-- as the code compares two tests
+pub differ : {x y a b : Bool} → x ≡ a → y ≡ b → not (beq x y) ≡ true → same_bool a b ≡ false
+unfolding same_bool
+differ {x} {y} d e h = rw (← d, ← e) (go x y h)
+  where
+    go : (x y : Bool) → not (beq x y) ≡ true → same_bool x y ≡ false
+    go true true h = sym h
+    go true false h = refl
+    go false true h = refl
+    go false false h = sym h
+
+pub agree : {x y a b : Bool} → x ≡ a → y ≡ b → not (beq x y) ≡ false → same_bool a b ≡ true
+unfolding same_bool
+agree {x} {y} d e h = rw (← d, ← e) (go x y h)
+  where
+    go : (x y : Bool) → not (beq x y) ≡ false → same_bool x y ≡ true
+    go true true h = refl
+    go true false h = sym h
+    go false true h = sym h
+    go false false h = refl
+
+-- a stack is shaped, and closed
+module _ (rows : List (List ℕ)) (vs zone : List ℕ) (z : ℕ) where
+  pub stack_not : shape_test rows vs 1 ≡ false → false ≡ stack_test rows vs zone z
+  unfolding stack_test ◌and◌
+  stack_not e = sym (ap (λ (b : Bool). b and closed_test rows vs zone z) e)
+
+  pub stack_shaped : shape_test rows vs 1 ≡ true → closed_test rows vs zone z ≡ stack_test rows vs zone z
+  unfolding stack_test ◌and◌
+  stack_shaped e = sym (ap (λ (b : Bool). b and closed_test rows vs zone z) e)

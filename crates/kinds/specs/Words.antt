@@ -8,6 +8,7 @@ use Rattle.std.specs.Int.Bits.{bit_and, and_step, and_zero_r}
 use borrow.Author.Tests.{eq-eqb, eqb-true}
 use Rattle.std.proofs.Math.Nat.{pow-le-pow_right}
 use native.Mathlib.Omega.{arith}
+use mir.Val.{bool_byte}
 use Rattle.spec.specs.Outcome.{◌or◌}
 use Rattle.theory.specs.Basics.Tests.{below_at, true_of, of_true}
 use Rattle.adjacency.specs.Bit.{bit_of, bit_zero, bit_suc}
@@ -27,6 +28,11 @@ out_from zone z at (suc k) = out_from zone z (at + 1) k * 2 + out_bit (eqb (get_
 bit_lt : (b : Bool) → out_bit b < 2
 bit_lt true = omega arith
 bit_lt false = omega arith
+
+-- as the code has it
+pub byte_out : (b : Bool) → (bool_byte (not b) ≡ out_bit b) × (bool_byte (not b) < 2)
+byte_out true = (refl, omega arith)
+byte_out false = (refl, omega arith)
 
 -- it has k bits
 pub out_lt : (zone : List ℕ) (z at k : ℕ) → out_from zone z at k < 2 ^ k

@@ -8,7 +8,6 @@ pub mod map;
 pub mod tables;
 
 pub use map::read_map;
-
 use numbering::ZoneKind;
 use std::marker::Model;
 

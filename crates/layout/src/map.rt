@@ -30,7 +30,7 @@ fn test_kinds(rows: &[[u64; 2]; 128], zones: &Zones, count: usize) -> Result<(),
             &zones.listed,
             &zones.zone,
             Zone(i as u8),
-            zones.kind[i].number(),
+            zones.kind[i],
             first,
             size,
         ) {

@@ -123,8 +123,8 @@ put_more t u v word at i h p e =
     rw n (put_as w (put_then p (put_one e)))
 
 -- all bytes of a word
-pub put_all : (t u word : List ℕ) (at i : ℕ) → length word ≤ i → Put t at (take i word) u (at + i) → Put t at word u (at + i)
-put_all t u word at i h p = put_as (take_all i word h) p
+pub put_all : (t u word : List ℕ) (at i : ℕ) → length word ≤ i → i ≤ length word → Put t at (take i word) u (at + i) → Put t at word u (at + length word)
+put_all t u word at i h l p = let e : i ≡ length word = omega arith in rw e at (put_as (take_all i word h) p)
 
 -- a number of one digit
 pub put_low : (t u : List ℕ) (at n : ℕ) → n < 10 → u ≡ set t at (48 + n) → Put t at (decimal n) u (at + 1)

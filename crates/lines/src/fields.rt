@@ -1,4 +1,6 @@
 // Text put into a buffer from a place on; what is past the buffer's end is left out.
+// Numbers go by no `write!`, whose contract lets it fail, since these functions cannot. `text` and `at` are no struct, since each
+// method of one that lends the buffer would also have to promise that it still holds the same buffer.
 ghost use Rattle.std.specs.Prelude.{◌≡◌, ◌+◌, ◌≤◌, length, set};
 ghost use Rattle.lines.specs.Text.{decimal, Put};
 ghost use Rattle.lines.specs.Listing.{field};
@@ -17,12 +19,10 @@ pub fn put_word(text: &mut [u8], at: usize, word: &[u8]) -> usize
     requires { (at ≤ 4294967296) × (length word.now ≤ 4294967296) }
     ensures { Put text.old at word.now text.new result }
 {
-    let mut i: usize = 0;
-    while i < word.len() {
-        put(text, at + i, word[i]);
-        i += 1;
+    for (i, b) in word.iter().enumerate() {
+        put(text, at + i, *b);
     }
-    at + i
+    at + word.len()
 }
 
 // Puts a number in decimal.

@@ -30,10 +30,8 @@ fn put_lines(moves: &[u8], sheet: &[u8], count: usize, text: &mut [u8], at: usiz
     ensures upper_bound { result ≤ at + count * 18 }
 {
     let mut next = at;
-    let mut i: usize = 0;
-    while i < count {
+    for i in 0..count {
         next = put_line(moves, sheet, i, text, next);
-        i += 1;
     }
     next
 }

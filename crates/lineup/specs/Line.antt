@@ -1,5 +1,5 @@
 -- The robots of a hall and their places, collected place by place.
-use Rattle.std.specs.Prelude.{◌≡◌, refl, get_or, set}
+use Rattle.std.specs.Prelude.{◌≡◌, get_or, set}
 use Rattle.std.proofs.Math.Path.{ap, sym}
 use Rattle.std.proofs.Common.{◌∙◌, add-one, arith, drop_of_length-le, take-suc-set}
 use Prim.Native.Nat.{ℕ, suc, ◌+◌, ◌<◌, ◌≤◌}
@@ -21,10 +21,6 @@ pub record Collected (a : Arrangement) (k n : ℕ) (rs ps : List ℕ) : Type 0 w
   pub short : n ≤ k
   pub robots : take n rs ++ order (drop k a) ≡ order a
   pub places : take n ps ++ places k (drop k a) ≡ places 0 a
-
--- none was collected yet
-pub collect_none : (a : Arrangement) (rs ps : List ℕ) → Collected a 0 0 rs ps
-collect_none a rs ps = record { short = omega arith; robots = refl; places = refl }
 
 -- one element more was stored, and the rest is one shorter
 pub stored : (l : List ℕ) (n x : ℕ) (old rest whole : List ℕ) → n < length l → old ≡ x ∷ rest → take n l ++ old ≡ whole

@@ -2,7 +2,7 @@
 use Rattle.std.specs.Prelude.{◌≡◌, refl, ℕ, zero, suc, ◌+◌, ◌-◌, ◌<◌, ◌≤◌, min, List, [], ◌∷◌, ◌++◌, map, length, get_or, set, take, replicate}
 use Rattle.std.proofs.Common.{ap, ap₂, sym, ◌∙◌, append_assoc, add-one, arith, length-set, length-take, take-suc, take_all, length-take-le}
 use Rattle.std.proofs.Math.Decide.{dec_lt}
-use Rattle.std.proofs.lemmas.List.{length-map, set_at}
+use Rattle.std.proofs.lemmas.List.{length-map, map-set, set_at}
 use Rattle.std.proofs.Math.Seq.{slice, slice-cons, slice_empty}
 use Rattle.spec.specs.Arrangement.{Move, mv}
 use Rattle.spec.specs.State as meaning
@@ -35,12 +35,6 @@ moved_by s m = meaning.moved s m
 pub length_mapped : (A B : Type 0) (f : A → B) (l : List A) (n : ℕ) → length (map f l) ≡ n → length l ≡ n
 length_mapped A B f l n e = sym (length-map l f) ∙ e
 
--- a store stores the number
-pub map_set : {A B : Type 0} (f : A → B) (l : List A) (i : ℕ) (a : A) → map f (set l i a) ≡ set (map f l) i (f a)
-map_set f [] i a = refl
-map_set f (x ∷ l) zero a = refl
-map_set f (x ∷ l) (suc i) a = ap (λ t. f x ∷ t) (map_set f l i a)
-
 -- ---- stores
 
 -- robot r on vertex v; robot r listed at vertex v
@@ -62,9 +56,9 @@ moved_leaves s a b t r f v e d h =
     let all : t ≡ code_state (set (set s.robots f.0 (record { 0 = 255 })) v.0 r) (set s.vertices r.0 v) = h ∙ rw (d, e) in
     ap state_of all
     ∙ ap₂ numbers
-    (map_set robot_no (set s.robots f.0 (record { 0 = 255 })) v.0 r
-    ∙ ap (λ (l : List ℕ). set l v.0 r.0) (map_set robot_no s.robots f.0 (record { 0 = 255 })))
-    (map_set vertex_no s.vertices r.0 v)
+    (map-set robot_no (set s.robots f.0 (record { 0 = 255 })) v.0 r
+    ∙ ap (λ (l : List ℕ). set l v.0 r.0) (map-set robot_no s.robots f.0 (record { 0 = 255 })))
+    (map-set vertex_no s.vertices r.0 v)
 
 -- ---- starts
 
@@ -98,12 +92,12 @@ standing_next vs n i s t r v S h er ev e =
       vertices_long = ap (λ (x : Inside). length x.vertices) e ∙ length-set s.vertices i v ∙ S.vertices_long;
       rest =
           ap₂ (λ (x : Inside) (k : ℕ). meaning.put (map robot_no x.robots) (i + 1) (slice k n vs)) e (add-one i)
-          ∙ ap (λ (l : List ℕ). meaning.put l (i + 1) (slice (suc i) n vs)) (map_set robot_no s.robots v.0 r)
+          ∙ ap (λ (l : List ℕ). meaning.put l (i + 1) (slice (suc i) n vs)) (map-set robot_no s.robots v.0 r)
           ∙ ap₂ (λ (a b : ℕ). meaning.put (set (map robot_no s.robots) a b) (i + 1) (slice (suc i) n vs)) ev er
           ∙ sym (ap (meaning.put (map robot_no s.robots) i) (slice-cons i n vs 0 h (omega arith)))
           ∙ S.rest;
       listed =
-          ap (λ (x : Inside). map vertex_no x.vertices) e ∙ map_set vertex_no s.vertices i v
+          ap (λ (x : Inside). map vertex_no x.vertices) e ∙ map-set vertex_no s.vertices i v
           ∙ ap₂ (λ (l : List ℕ) (x : ℕ). set l i x) S.listed ev
           ∙ filled;
     }

@@ -52,3 +52,10 @@ number_high Ring = omega arith
 -- a number that no kind has is none of these
 pub no_number : (n : ℕ) → ((kind : ZoneKind) → number_of kind ≢ n) → 1 ≤ n → n ≤ 4 → ⊥
 no_number n h l m = omega (arith, h Stack, h Hall, h Clique, h Ring)
+
+-- and one that is not a stack a number from 2 on
+pub not_stack : (kind : ZoneKind) → (kind ≡ Stack → ⊥) → 2 ≤ number_of kind
+not_stack Stack h = absurd (h refl)
+not_stack Hall h = omega arith
+not_stack Clique h = omega arith
+not_stack Ring h = omega arith

@@ -1,8 +1,12 @@
 -- Ending a ring: the lowest-numbered robot is pushed to its goal, then the other places are a hall.
-use Rattle.std.specs.Prelude.{◌≡◌, refl, ◌≢◌, Bool, true, false, List, [], ◌∷◌, ◌++◌, map, length, get_or, drop, set}
+use Rattle.std.specs.Prelude.{◌≡◌, refl, ◌≢◌, Bool, true, false, List, [], ◌∷◌, ◌++◌, map, length, get_or, drop, MatchOption, Option, Some, None}
+use Rattle.std.specs.List.{filter, fold, reduce}
+use Rattle.std.specs.Option.{option_map}
+use mathlib.Core.Path.{subst}
+use Rattle.numbering.specs.declared.Robot.{Robot}
 use Rattle.std.proofs.Math.Path.{ap, sym}
-use Rattle.std.proofs.Common.{ap₂, ◌∙◌, ⊎_elim, add-one, zero-add, take-append-drop, take-suc, take-suc-set, take_all, eq-eqb, ne_eqb}
-use Prim.Native.Nat.{ℕ, zero, suc, ◌+◌, ◌-◌, ◌<◌, ◌≤◌, min}
+use Rattle.std.proofs.Common.{ap₂, ◌∙◌, ⊎_elim, add-one, zero-add, take-append-drop, take_all, length-drop, eq-eqb, ne_eqb}
+use Prim.Native.Nat.{ℕ, zero, suc, ◌+◌, ◌-◌, ◌<◌, min}
 use Rattle.std.proofs.lemmas.List.{map-append}
 use native.Mathlib.Omega.{arith}
 use Rattle.std.proofs.Math.Decide.{ℕ_discrete}
@@ -14,7 +18,6 @@ use Rattle.spec.specs.State.{State, cell_of, robot_on, arrangement_of, across_mo
 use Rattle.spec.specs.Ring.{wrap, in_ring, ahead, push_to, opened, lowest, turned, ring_can_end, ring_end_at, ring_end}
 use Rattle.theory.specs.Basics.Tests.{of_true, same→eq}
 use Rattle.theory.specs.Basics.Lists.{Each, none, ◌&&&◌, ◌&◌, each_append, In, in_head, in_tail, in_left, in_right, in_append}
-use Rattle.theory.specs.Maps.Cells.{cell_of_lem, cell_none}
 use Rattle.theory.specs.Zones.Arrangements.{member→cell, cell_inside}
 use Rattle.theory.specs.Basics.Searches.{seek_ok}
 use Rattle.theory.specs.Zones.Ring.Frames.{Within}
@@ -24,10 +27,9 @@ use Rattle.motion.specs.Across.{made_both, across_nil, arrangement_length}
 use Rattle.motion.specs.Coupling.{Listed, arranged}
 use Rattle.circle.specs.Pushes.{inside_pushes}
 use Rattle.turns.specs.Entry.{opened_at}
-use Rattle.cells.specs.Reading.{places_taken, places_free, places_over}
-use Rattle.turned.specs.Comparing.{end_full, end_open}
+use Rattle.turned.specs.Comparing.{end_full, end_open, robot?, number, robots_listed}
 
--- ---- the lowest-numbered robot, read from the last place on
+-- ---- the lowest-numbered robot
 
 -- the lesser of a cell and an empty one
 lesser_none : (x y : ℕ) → y ≡ 0 → lesser x y ≡ x
@@ -39,38 +41,34 @@ lesser_both : (x y : ℕ) → y ≢ 0 → lesser x y ≡ min x y
 unfolding lesser
 lesser_both x y n = ap (λ (b : Bool). elim b as (λ b. ℕ) [ true ↦ x | false ↦ min x y ]) (ne_eqb y 0 n)
 
-module _ (s : State) (vs : List ℕ) where
-  -- a robot lower than the lowest so far, where 255 is none
-  pub lowest_lower : (k x b : ℕ) → k < length vs → x ≡ robot_on s (get_or vs k 0) → x < b → b ≤ 255
-      → cell_of b ≡ lowest (order (drop (k + 1) (arrangement_of s vs))) → cell_of x ≡ lowest (order (drop k (arrangement_of s vs)))
-  unfolding lowest order
-  lowest_lower k x b h e l u d =
-      let n : x ≢ 255 = λ q. omega arith in
-      sym (ap (λ (a : Arrangement). lowest (order a)) (places_taken s vs k x h e n) ∙ ap (lesser (suc x)) (sym d) ∙ go (ℕ_discrete b 255) ∙ sym (cell_of_lem n))
-    where
-      go : Dec (b ≡ 255) → lesser (suc x) (cell_of b) ≡ suc x
-      go (yes q) = lesser_none (suc x) (cell_of b) (cell_none q)
-      go (no q) =
-          let c : cell_of b ≡ suc b = cell_of_lem q in
-          lesser_both (suc x) (cell_of b) (λ z. omega arith) ∙ omega arith
+-- it is the least of the robots
+lowest_fold : (x : ℕ) (l : List ℕ) → lowest (x ∷ l) ≡ suc (fold min x l)
+unfolding lowest
+lowest_fold x [] = lesser_none (suc x) 0 refl
+lowest_fold x (y ∷ l) = pair (lowest l) ∙ lowest_fold (min x y) l
+  where
+    pair : (z : ℕ) → lesser (suc x) (lesser (suc y) z) ≡ lesser (suc (min x y)) z
+    pair zero =
+        ap (lesser (suc x)) (lesser_none (suc y) 0 refl) ∙ lesser_both (suc x) (suc y) (λ q. omega arith) ∙ omega arith
+        ∙ sym (lesser_none (suc (min x y)) 0 refl)
+    pair (suc z) =
+        ap (lesser (suc x)) (lesser_both (suc y) (suc z) (λ q. omega arith)) ∙ lesser_both (suc x) (min (suc y) (suc z)) (λ q. omega arith) ∙ omega arith
+        ∙ sym (lesser_both (suc (min x y)) (suc z) (λ q. omega arith))
 
-  -- one that is not lower, or nobody
-  pub lowest_kept : (k x b : ℕ) → k < length vs → x ≡ robot_on s (get_or vs k 0) → b ≤ x → x ≤ 255
-      → cell_of b ≡ lowest (order (drop (k + 1) (arrangement_of s vs))) → cell_of b ≡ lowest (order (drop k (arrangement_of s vs)))
-  unfolding lowest order
-  lowest_kept k x b h e l u d = go (ℕ_discrete x 255)
-    where
-      go : Dec (x ≡ 255) → cell_of b ≡ lowest (order (drop k (arrangement_of s vs)))
-      go (yes q) = d ∙ sym (ap (λ (a : Arrangement). lowest (order a)) (places_free s vs k x h e q))
-      go (no q) =
-          let c : cell_of b ≡ suc b = cell_of_lem (λ z. omega arith) in
-          let m : lesser (suc x) (cell_of b) ≡ suc b = lesser_both (suc x) (cell_of b) (λ z. omega arith) ∙ omega arith in
-          c ∙ sym (ap (λ (a : Arrangement). lowest (order a)) (places_taken s vs k x h e q) ∙ ap (lesser (suc x)) (sym d) ∙ m)
+-- none of no robots
+lowest_least : (l : List ℕ) → MatchOption (reduce min l) (lowest l ≡ 0) (λ r. lowest l ≡ suc r)
+unfolding lowest
+lowest_least [] = refl
+lowest_least (x ∷ l) = lowest_fold x l
 
-  -- nobody yet
-  pub lowest_none : (k b : ℕ) → length vs ≤ k → b ≡ 255 → cell_of b ≡ lowest (order (drop k (arrangement_of s vs)))
-  unfolding lowest order
-  lowest_none k b h e = cell_none e ∙ sym (ap (λ (a : Arrangement). lowest (order a)) (places_over s vs k h))
+-- the same of the code's robots
+pub lowest_found : (s : State) (vs : List ℕ) (r : Option Robot) → option_map number r ≡ reduce min (filter robot? (map (robot_on s) vs))
+    → MatchOption r (lowest (order (arrangement_of s vs)) ≡ 0) (λ x. lowest (order (arrangement_of s vs)) ≡ suc x.0)
+lowest_found s vs r e = go r (e ∙ ap (reduce min) (robots_listed s vs))
+  where
+    go : (o : Option Robot) → option_map number o ≡ reduce min (order (arrangement_of s vs)) → MatchOption o (lowest (order (arrangement_of s vs)) ≡ 0) (λ x. lowest (order (arrangement_of s vs)) ≡ suc x.0)
+    go None d = subst (λ p. MatchOption p (lowest (order (arrangement_of s vs)) ≡ 0) (λ x. lowest (order (arrangement_of s vs)) ≡ suc x)) (sym d) (lowest_least (order (arrangement_of s vs)))
+    go (Some x) d = subst (λ p. MatchOption p (lowest (order (arrangement_of s vs)) ≡ 0) (λ x. lowest (order (arrangement_of s vs)) ≡ suc x)) (sym d) (lowest_least (order (arrangement_of s vs)))
 
 -- the lowest-numbered robot is one of the robots
 lowest_in : (l : List ℕ) (r : ℕ) → lowest l ≡ suc r → In r l
@@ -250,41 +248,29 @@ end_both w u t vs os r j M e h d i o k =
 
 -- ---- the opened ring's vertices, copied
 
--- one vertex more
-pub opened_copy : (vs os new : List ℕ) (j i v : ℕ) → j < length vs → i + 1 < length vs → i < length os → new ≡ set os i v
-    → v ≡ get_or vs (wrap (length vs) (j + (i + 1))) 0 → take i os ≡ take i (opened j vs) → take (i + 1) new ≡ take (i + 1) (opened j vs)
-opened_copy vs os new j i v h l k e d t =
-    ap₂ (λ (n : ℕ) (x : List ℕ). take n x) (add-one i) e ∙ take-suc-set os i v k
-    ∙ ap₂ (λ (x : List ℕ) (y : ℕ). x ++ (y ∷ [])) t (d ∙ sym (opened_at j vs i h l))
-    ∙ sym (take-suc (opened j vs) i 0 (omega (arith, length_opened j vs h)))
-    ∙ ap (λ (n : ℕ). take n (opened j vs)) (sym (add-one i))
-
--- all of them
-pub opened_copied : (vs os : List ℕ) (j i : ℕ) → j < length vs → i ≡ length vs - 1 → take i os ≡ take i (opened j vs) → take (length vs - 1) os ≡ opened j vs
-opened_copied vs os j i h e t =
-    ap (λ (n : ℕ). take n os) (sym e) ∙ t ∙ take_all i (opened j vs) (omega (arith, length_opened j vs h))
-
--- one vertex fewer than the ring has
-pub opened_count : (vs os : List ℕ) (j : ℕ) → j < length vs → os ≡ opened j vs → length vs - 1 ≡ length os
-opened_count vs os j h e = omega (arith, ap length e, length_opened j vs h)
+-- those after the place, then those before it
+pub opened_joined : (vs : List ℕ) (j : ℕ) → j < length vs → take (length vs - (j + 1)) (drop (j + 1) vs) ++ take j vs ≡ opened j vs
+unfolding opened
+opened_joined vs j h = ap (λ (l : List ℕ). l ++ take j vs) (take_all (length vs - (j + 1)) (drop (j + 1) vs) (omega (arith, length-drop (j + 1) vs)) ∙ ap (λ (i : ℕ). drop i vs) (add-one j))
 
 -- `lowest` is the name of a function too
 abbrev pub lowest_cell : List ℕ → ℕ
 lowest_cell = lowest
 
--- ---- the lowest-numbered robot as the code has it: 255 where there is none
+-- ---- the ending by the lowest-numbered robot
 
-module _ (s t : State) (vs : List ℕ) (r : ℕ) (e : cell_of r ≡ lowest (order (arrangement_of s vs))) where
-  -- nobody moves
-  pub ends_nobody : r ≡ 255 → (w : World) → w ≡ made_all w (across vs (ring_end (arrangement_of s vs) (arrangement_of t vs)))
-  ends_nobody n w =
+module _ (s t : State) (vs : List ℕ) where
+  -- without one nobody moves
+  pub ends_nobody : lowest (order (arrangement_of s vs)) ≡ 0 → (w : World) → w ≡ made_all w (across vs (ring_end (arrangement_of s vs) (arrangement_of t vs)))
+  ends_nobody e w =
       made_none w (across vs (ring_end (arrangement_of s vs) (arrangement_of t vs)))
-      (ap (across vs) (end_none (arrangement_of s vs) (arrangement_of t vs) (sym e ∙ cell_none n)) ∙ across_nil vs)
+      (ap (across vs) (end_none (arrangement_of s vs) (arrangement_of t vs) e) ∙ across_nil vs)
 
-  -- its place and that of its goal are in the ring
-  pub ends_stands : r ≢ 255 → seek (suc r) (arrangement_of s vs) < length vs
-  ends_stands n = omega (arith, robot_inside (arrangement_of s vs) r (sym e ∙ cell_of_lem n), arrangement_length s vs)
+  module _ (r : ℕ) (e : lowest (order (arrangement_of s vs)) ≡ suc r) where
+    -- its place is in the ring
+    pub ends_stands : seek (suc r) (arrangement_of s vs) < length vs
+    ends_stands = omega (arith, robot_inside (arrangement_of s vs) r e, arrangement_length s vs)
 
-  -- its goal's place is in the ring
-  pub ends_goal : r ≢ 255 → ring_can_end (arrangement_of s vs) (arrangement_of t vs) ≡ true → seek (suc r) (arrangement_of t vs) < length vs
-  ends_goal n d = omega (arith, goal_inside (arrangement_of s vs) (arrangement_of t vs) r (sym e ∙ cell_of_lem n) d, arrangement_length t vs)
+    -- and that of its goal
+    pub ends_goal : ring_can_end (arrangement_of s vs) (arrangement_of t vs) ≡ true → seek (suc r) (arrangement_of t vs) < length vs
+    ends_goal d = omega (arith, goal_inside (arrangement_of s vs) (arrangement_of t vs) r e d, arrangement_length t vs)

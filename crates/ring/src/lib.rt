@@ -11,11 +11,11 @@ ghost use Rattle.motion.specs.Coupling.{Listed};
 
 mod ending;
 
-use motion::State;
 use cells::place_of;
 use circle::places::next;
 use circle::pushing::{push, push_to};
 use ending::{lowest, open_at};
+use motion::State;
 use numbering::Robot;
 use turns::turning::{goes_on, step, turn_place};
 
@@ -52,19 +52,17 @@ pub fn enter(
 {
     let m = zone.len();
     let mut count = count;
-    let mut left = m * m;
-    let mut p = turn_place(state, zone, j, behind);
-    while 0 < left {
-        if p == m {
+    let mut turn = turn_place(state, zone, j, Robot(behind));
+    for _ in 0..m * m {
+        let Some(p) = turn else {
             return count;
-        }
-        left -= 1;
+        };
         if goes_on(state, zone, j, p) {
             count = step(state, count, zone, p, out);
-            p = next(m, p);
+            turn = Some(next(m, p));
         } else {
             count = push(state, count, zone, p, out);
-            p = turn_place(state, zone, j, behind);
+            turn = turn_place(state, zone, j, Robot(behind));
         }
     }
     count
@@ -72,26 +70,19 @@ pub fn enter(
 
 // "Ending: push the ring's lowest-numbered cart to its goal, then treat the other places .. as a hall": the robots go to
 // their goals, which can be reached.
-pub fn end(
-    state: &mut State,
-    count: usize,
-    zone: &[u8],
-    goals: &State,
-    out: &mut [u8],
-) -> usize
+pub fn end(state: &mut State, count: usize, zone: &[u8], goals: &State, out: &mut [u8]) -> usize
     requires zone_len_bound { length zone.now ≤ 128 }
     requires listed { Listed (length state.old.robots) zone.now }
     requires zone_value { ring_can_end (arrangement_of state.old zone.now) (arrangement_of goals.now zone.now) ≡ true }
     ensures { world state.new result out.new ≡ made_all (world state.old count out.old) (across zone.now (ring_end (arrangement_of state.old zone.now) (arrangement_of goals.now zone.now))) }
 {
-    let r = lowest(state, zone);
-    if r.0 == 255 {
+    let Some(r) = lowest(state, zone) else {
         return count;
-    }
+    };
     let j = place_of(goals, zone, r);
     let pushed = push_to(state, count, zone, r, j, out);
-    let mut others = [0u8; 128];
-    open_at(zone, j, &mut others);
-    let n = zone.len() - 1;
-    hall::end(state, pushed, &others[..n], goals, out)
+    let mut buffer = [0u8; 128];
+    let others = &mut buffer[..zone.len() - 1];
+    open_at(zone, j, others);
+    hall::end(state, pushed, others, goals, out)
 }

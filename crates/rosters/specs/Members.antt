@@ -1,54 +1,46 @@
 -- The same robots in two lists: one by one, and by a word with a bit for each robot.
-use Rattle.std.specs.Prelude.{◌≡◌, refl, Bool, true, false, List, [], ◌∷◌, ℕ, zero, suc, ◌+◌, ◌/◌, ◌%◌, ◌^◌, ◌≤◌, ◌<◌, length, get_or, drop, eqb}
+use Rattle.std.specs.Prelude.{◌≡◌, refl, Bool, true, false, List, [], ◌∷◌, ℕ, zero, suc, ◌+◌, ◌/◌, ◌%◌, ◌^◌, ◌≤◌, ◌<◌, length, get_or, max, fold, eqb, ◌&&◌}
+use Rattle.std.specs.List.{list_any, list_all}
 use Rattle.std.proofs.Math.Path.{sym}
-use Rattle.std.proofs.Common.{ap, ◌∙◌, arith, drop_of_length-le, drop-cons}
-use Rattle.std.proofs.Math.Decide.{ℕ_discrete, dec_lt}
+use Rattle.std.proofs.Common.{ap, ◌∙◌, arith}
+use Rattle.std.proofs.Math.Decide.{ℕ_discrete}
 use Rattle.std.proofs.Math.Nat.{zero-div}
-use Rattle.std.proofs.Math.Numerals.{add-one}
-use Rattle.std.proofs.Math.ListN.{get_or-eq_default}
-use Rattle.std.proofs.Math.Seq.{slice, slice-cons, slice_empty}
 use Rattle.std.specs.Int.Bits.{bit_or}
-use borrow.Author.Tests.{eq-eqb, ne_eqb, eqb-true, lt-ltb, le-ltb}
-use Rattle.spec.specs.Outcome.{◌and◌, all, member, index_of}
+use borrow.Author.Tests.{eq-eqb, ne_eqb, eqb-true}
+use Rattle.spec.specs.Outcome.{◌and◌, all, member}
 use Rattle.theory.specs.Basics.Tests.{of_true}
 use Rattle.adjacency.specs.Bit.{bit_of, bit_zero, bit_suc, set_same, set_other}
 use Rattle.adjacency.specs.Rows.{same_test, and_true, both}
-use Rattle.reaching.specs.Reach.{member_index}
 use Rattle.orders.specs.Orders.{same_members}
+use Rattle.rosters.specs.Finding.{member_is}
 
 -- ---- one by one
 
--- robot k of l, the number i in o, is in o, or not; and none is left
-module _ (o l : List ℕ) (m : ℕ) (e : length o ≡ m) where
-  pub all_there : (k n i : ℕ) → k < n → n ≤ length l → i ≡ index_of (get_or l k 0) o → i < m → all (λ r. member r o) (slice (k + 1) n l) ≡ all (λ r. member r o) (slice k n l)
-  unfolding all
-  all_there k n i h q d b =
-      sym (rw (slice-cons k n l 0 h q, member_index (get_or l k 0) o ∙ lt-ltb (index_of (get_or l k 0) o) (length o) (omega arith), all, add-one k))
+-- the search of each robot of a list is the library's
+pub all_is : (o l : List ℕ) → list_all (λ r. list_any (λ y. eqb y r) o) l ≡ all (λ r. member r o) l
+unfolding all
+all_is o [] = refl
+all_is o (x ∷ l) = rw (member_is o x, all_is o l, all) (at (member x o))
+  where
+    at : (b : Bool) → ◌≡◌ {A = Bool} (b && all (λ r. member r o) l) (elim b [ true ↦ all (λ r. member r o) l | false ↦ false ])
+    at true = refl
+    at false = refl
 
-  pub all_missing : (k n i : ℕ) → k < n → n ≤ length l → i ≡ index_of (get_or l k 0) o → m ≤ i → false ≡ all (λ r. member r o) (slice k n l)
-  unfolding all
-  all_missing k n i h q d b =
-      sym (rw (slice-cons k n l 0 h q, member_index (get_or l k 0) o ∙ le-ltb (index_of (get_or l k 0) o) (length o) (omega arith), all))
-
-  pub all_done : (k n : ℕ) → k ≡ n → true ≡ all (λ r. member r o) (slice k n l)
-  unfolding all
-  all_done k n h = rw (h, slice_empty n l)
-
-module _ (l o : List ℕ) (n m : ℕ) (e : length l ≡ n) (d : length o ≡ m) where
+module _ (l o : List ℕ) where
   -- not as many
-  pub members_other : (n ≡ m → ⊥) → false ≡ same_members l o
+  pub members_other : (length l ≡ length o → ⊥) → false ≡ same_members l o
   unfolding same_members ◌and◌
-  members_other h = sym (rw (ne_eqb (length l) (length o) (λ z. h (sym e ∙ z ∙ d)), same_members, ◌and◌))
+  members_other h = sym (rw (ne_eqb (length l) (length o) h, same_members, ◌and◌))
 
   -- as many, but some robot is missing in the second
-  pub members_not : n ≡ m → false ≡ all (λ r. member r o) l → false ≡ same_members l o
+  pub members_not : length l ≡ length o → false ≡ all (λ r. member r o) l → false ≡ same_members l o
   unfolding same_members ◌and◌
-  members_not h b = sym (rw (eq-eqb (length l) (length o) (e ∙ h ∙ sym d), same_members, ◌and◌, ← b))
+  members_not h b = sym (rw (eq-eqb (length l) (length o) h, same_members, ◌and◌, ← b))
 
   -- none is missing there: the first decides
-  pub members_same : n ≡ m → true ≡ all (λ r. member r o) l → all (λ r. member r l) o ≡ same_members l o
+  pub members_same : length l ≡ length o → true ≡ all (λ r. member r o) l → all (λ r. member r l) o ≡ same_members l o
   unfolding same_members ◌and◌
-  members_same h b = sym (rw (eq-eqb (length l) (length o) (e ∙ h ∙ sym d), same_members, ◌and◌, ← b))
+  members_same h b = sym (rw (eq-eqb (length l) (length o) h, same_members, ◌and◌, ← b))
 
 -- ---- by marks
 
@@ -56,42 +48,25 @@ module _ (l o : List ℕ) (n m : ℕ) (e : length l ≡ n) (d : length o ≡ m) 
 abbrev pub Small : List ℕ → Type 0
 Small l = (j : ℕ) → get_or l j 0 < 64
 
--- one more of a list is not above a number
-pub high_more : (l : List ℕ) (i h k : ℕ) → ((j : ℕ) → j < i → get_or l j 0 ≤ h) → h ≤ k → get_or l i 0 ≤ k → (j : ℕ) → j < i + 1 → get_or l j 0 ≤ k
-high_more l i h k f a b j x = at (ℕ_discrete j i)
+-- none of a list is above the largest
+high_from : (l : List ℕ) (h : ℕ) → (h ≤ fold max h l) × ((j : ℕ) → get_or l j 0 ≤ fold max h l)
+high_from [] h = (omega arith, λ j. omega arith)
+high_from (x ∷ l) h = let q = high_from l (max h x) in (omega (arith, q.0), each (omega (arith, q.0)) q.1)
   where
-    at : Dec (j ≡ i) → get_or l j 0 ≤ k
-    at (yes d) = rw d b
-    at (no d) = omega (arith, f j (omega arith))
+    each : {m : ℕ} → x ≤ m → ((j : ℕ) → get_or l j 0 ≤ m) → (j : ℕ) → get_or (x ∷ l) j 0 ≤ m
+    each a b zero = a
+    each a b (suc j) = b j
 
--- none is
-pub high_all : (l : List ℕ) (h : ℕ) → ((j : ℕ) → j < length l → get_or l j 0 ≤ h) → (j : ℕ) → get_or l j 0 ≤ h
-high_all l h f j = at (dec_lt j (length l))
-  where
-    at : Dec (j < length l) → get_or l j 0 ≤ h
-    at (yes d) = f j d
-    at (no d) = rw (get_or-eq_default l 0 {n = j} (omega arith)) (omega arith)
+pub small : (l : List ℕ) → fold max 0 l < 64 → Small l
+small l h j = omega (arith, (high_from l 0).1 j)
 
 -- the word w with the robots of a list marked
-unfoldable pub marked : List ℕ → ℕ → ℕ
-marked [] w = w
-marked (r ∷ l) w = marked l (bit_or w (2 ^ (r % 64)))
-
--- one more is marked
-pub mark_next : (l : List ℕ) (w v i : ℕ) → i < length l → v ≡ bit_or w (2 ^ (get_or l i 0 % 64)) → marked (drop (i + 1) l) v ≡ marked (drop i l) w
-unfolding marked
-mark_next l w v i h e =
-    let d : drop i l ≡ get_or l i 0 ∷ drop (i + 1) l = rw add-one (drop-cons l i 0 h) in
-    ap (marked (drop (i + 1) l)) e ∙ sym (ap (λ (x : List ℕ). marked x w) d)
-
--- none is left
-pub mark_end : (l : List ℕ) (w i : ℕ) → length l ≤ i → w ≡ marked (drop i l) w
-unfolding marked
-mark_end l w i h = sym (ap (λ (x : List ℕ). marked x w) (drop_of_length-le l {i = i} h))
+abbrev pub marked : List ℕ → ℕ → ℕ
+marked l w = fold (λ v r. bit_or v (2 ^ (r % 64))) w l
 
 -- a bit is set of a robot that is marked, and else as it was
 bit_is : (l : List ℕ) (w x : ℕ) → Small l → ◌≡◌ {A = ℕ} (bit_of (marked l w) x) (elim (member x l) [ true ↦ 1 | false ↦ bit_of w x ])
-unfolding marked member
+unfolding member
 bit_is [] w x s = refl
 bit_is (y ∷ l) w x s = bit_is l (bit_or w (2 ^ (y % 64))) x (λ j. s (suc j)) ∙ at (ℕ_discrete x y)
   where

@@ -1,39 +1,44 @@
 // The table of an arrangement: the place of each robot by its cell, and the size for a robot that is not inside.
-ghost use Rattle.std.specs.Prelude.{◌≡◌, ℕ, ◌≤◌, ◌<◌, length, get_or, set, replicate};
+ghost use Rattle.std.specs.Prelude.{◌≡◌, ℕ, ◌≤◌, ◌<◌, length, get_or, set};
 ghost use Rattle.spec.specs.Arrangement.{seek};
 
-use cells::{cell_at, index_of};
-use motion::put_cell;
+use std::marker::Model;
 
-// A place, or the size, as a number of the table.
-pub fn as_byte(m: usize) -> u8
-    requires { m < 256 }
-    ensures { result ≡ m }
-{
-    m as u8
+// The places, by cell.
+#[derive(Drop)]
+pub struct Table {
+    places: [u8; 256],
 }
 
-// The robots' places are put into a lent table, which holds the size everywhere: from the last place to the first, so that the earliest counts.
-pub fn table_cells(cells: &[u8], table: &mut [u8])
-    requires { (length cells.now ≤ 128) × (table.old ≡ replicate 256 (length cells.now)) }
-    ensures { (x : ℕ) → x < 256 → get_or table.new x 0 ≡ seek x cells.now }
-{
-    let mut k = cells.len();
-    while 0 < k {
-        k -= 1;
-        let i = index_of(cells[k]);
-        put_cell(table, i, as_byte(k));
+impl Model for Table {
+    ghost use Rattle.std.specs.Prelude.{ℕ, List};
+
+    ghost Value = { List ℕ };
+
+    ghost view = { λ t. t.places };
+}
+
+impl Table {
+    // The table of an arrangement in cells: from the last place to the first, so that the earliest counts.
+    pub fn of(cells: &[u8]) -> Table
+        requires { length cells.now ≤ 128 }
+        ensures { (length result ≡ 256) × ((x : ℕ) → x < 256 → get_or result x 0 ≡ seek x cells.now) }
+    {
+        let mut places = [cells.len() as u8; 256];
+        for k in (0..cells.len()).rev() {
+            places[usize::from(cells[k])] = k as u8;
+        }
+        Table { places }
     }
-}
 
-// The place of the robot of cell x by the table, in which it goes to place j.
-pub fn table_move(table: &mut [u8], x: u8, j: usize) -> usize
-    requires { j < 256 }
-    ensures { (result ≡ get_or table.old x 0) × (table.new ≡ set table.old x j) × (x < 256) }
-{
-    let k = index_of(x);
-    let i = cell_at(table, k);
-    let to = as_byte(j);
-    put_cell(table, k, to);
-    index_of(i)
+    // The robot of cell x goes to place j: the place where it was.
+    pub fn go(&mut self, x: u8, j: usize) -> usize
+        requires { j < 256 }
+        ensures { (result ≡ get_or self.old x 0) × (self.new ≡ set self.old x j) × (x < 256) }
+    {
+        let i = usize::from(x);
+        let from = self.places[i];
+        self.places[i] = j as u8;
+        usize::from(from)
+    }
 }

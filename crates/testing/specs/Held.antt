@@ -55,13 +55,17 @@ changed_part cells a n l part new h e w =
     rest : length (take a cells) ≡ a → drop a (take a cells ++ part) ≡ part
     rest q = lib.Seq.drop_at (take a cells) part a q
 
--- by the rest of the row that was lent; f is what becomes of it
-pub changed_rest : (cells : List ℕ) (a n : ℕ) (f : List ℕ → List ℕ) (part : List ℕ) → a ≤ length cells → Rewritten (take (length cells - a) (drop a cells)) n (f (take (length cells - a) (drop a cells))) part
-    → Changed cells a n (f (drop a cells)) (put_mid a (length cells - a) cells part)
-changed_rest cells a n f part h w =
-    changed_part cells a n (f (drop a cells)) part (put_mid a (length cells - a) cells part) h
-    (ap (λ (t : List ℕ). take a cells ++ t) (ap (λ (t : List ℕ). part ++ t) (Post-is a (length cells) cells h ∙ drop-length cells) ∙ append-nil part))
-    (subst (λ (x : List ℕ). Rewritten x n (f x) part) (rest_is a cells) w)
+-- the rest of a row of w
+pub rest_of : (a w : ℕ) (cells : List ℕ) → length cells ≡ w → take (w - a) (drop a cells) ≡ drop a cells
+rest_of a w cells e = rw (← e) (rest_is a cells)
+
+-- by the rest of the row of w that was lent; f is what becomes of it
+pub changed_rest : (cells : List ℕ) (a n w : ℕ) (f : List ℕ → List ℕ) (part : List ℕ) → length cells ≡ w → a ≤ w → Rewritten (take (w - a) (drop a cells)) n (f (take (w - a) (drop a cells))) part
+    → Changed cells a n (f (drop a cells)) (put_mid a (w - a) cells part)
+changed_rest cells a n w f part e h r =
+    changed_part cells a n (f (drop a cells)) part (put_mid a (w - a) cells part) (omega (arith, e))
+    (ap (λ (t : List ℕ). take a cells ++ t) (ap (λ (t : List ℕ). part ++ t) (Post-is a w cells h ∙ rw (← e) (drop-length cells)) ∙ append-nil part))
+    (subst (λ (x : List ℕ). Rewritten x n (f x) part) (rest_of a w cells e) r)
 
 -- elements that are all the same are the same part
 same_part : (xs ys : List ℕ) (f c : ℕ) → length ys ≡ length xs → f + c ≤ length xs → ((k : ℕ) → f ≤ k → k < f + c → get_or ys k 0 ≡ get_or xs k 0) → take c (drop f ys) ≡ take c (drop f xs)

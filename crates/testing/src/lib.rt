@@ -57,3 +57,10 @@ pub struct Step {
     pub into: usize,
     pub list: usize,
 }
+
+// The lists of all zones: zone z's stands among the cells from its first on and has counts[z] robots.
+#[derive(Drop)]
+pub struct Lists {
+    pub cells: [u8; 128],
+    pub counts: [u8; 64],
+}

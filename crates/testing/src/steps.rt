@@ -7,7 +7,7 @@ ghost use Rattle.testing.specs.Held.{list_in};
 ghost use Rattle.testing.specs.Steps.{Ready, Fits, extra_on, EntryTested, StepTested};
 
 use crate::tests::{are_numbered, is_crossing};
-use crate::{Step, StepFault};
+use crate::{Lists, Step, StepFault};
 
 // An entry that passed its tests: the index at which the robot comes into the list, 0 where it fills a clique, and how many bytes the follow list has.
 #[derive(Clone, Copy)]
@@ -23,20 +23,19 @@ fn leave_at<'a>(
     size: &'a [u8; 64],
     zone: &'a [u8; 128],
     place: &'a [u8; 128],
-    cells: &[u8],
-    counts: &[u8; 64],
+    lists: &Lists,
     r: u8,
     u: u8,
 ) -> Option<usize>
-    requires { Fits first.now size.now zone.now place.now counts.now cells.now u }
-    ensures { LeaveFound (leave_test (kind_at kind.now zone.now u) (get_or size.now (get_or zone.now u 0) 0) (list_in first.now counts.now cells.now (get_or zone.now u 0)) r (get_or place.now u 0)) r (get_or counts.now (get_or zone.now u 0) 0) (list_in first.now counts.now cells.now (get_or zone.now u 0)) result }
+    requires { Fits first.now size.now zone.now place.now lists.now.counts lists.now.cells u }
+    ensures { LeaveFound (leave_test (kind_at kind.now zone.now u) (get_or size.now (get_or zone.now u 0) 0) (list_in first.now lists.now.counts lists.now.cells (get_or zone.now u 0)) r (get_or place.now u 0)) r (get_or lists.now.counts (get_or zone.now u 0) 0) (list_in first.now lists.now.counts lists.now.cells (get_or zone.now u 0)) result }
 {
     let z = zone[u as usize] as usize;
     let a = first[z] as usize;
-    let n = counts[z] as usize;
+    let n = lists.counts[z] as usize;
     let m = size[z] as usize;
     let j = place[u as usize] as usize;
-    exits::leaving::leave_index(kind[z], &cells[a..], n, m, r, j)
+    exits::leaving::leave_index(kind[z], &lists.cells[a..], n, m, r, j)
 }
 
 // How many bytes the follow list has of a step into a zone of `size` places with n robots.
@@ -95,22 +94,21 @@ fn test_entry_at<'a>(
     size: &'a [u8; 64],
     zone: &'a [u8; 128],
     place: &'a [u8; 128],
-    cells: &[u8],
-    counts: &[u8; 64],
+    lists: &Lists,
     r: u8,
     v: u8,
     behind: u8,
 ) -> Result<Entry, StepFault>
     requires len_in_bounds { (len ≤ length file.now / 512 * 504) × (o + 4 ≤ len) }
-    requires fits { Fits first.now size.now zone.now place.now counts.now cells.now v }
-    ensures { EntryTested file.now len o (kind_at kind.now zone.now v) (get_or counts.now (get_or zone.now v 0) 0) (list_in first.now counts.now cells.now (get_or zone.now v 0)) (get_or size.now (get_or zone.now v 0) 0) r (get_or place.now v 0) behind result }
+    requires fits { Fits first.now size.now zone.now place.now lists.now.counts lists.now.cells v }
+    ensures { EntryTested file.now len o (kind_at kind.now zone.now v) (get_or lists.now.counts (get_or zone.now v 0) 0) (list_in first.now lists.now.counts lists.now.cells (get_or zone.now v 0)) (get_or size.now (get_or zone.now v 0) 0) r (get_or place.now v 0) behind result }
 {
     let z = zone[v as usize] as usize;
     let a = first[z] as usize;
-    let n = counts[z] as usize;
+    let n = lists.counts[z] as usize;
     let m = size[z] as usize;
     let j = place[v as usize] as usize;
-    test_entry(file, len, o, kind[z], &cells[a..], n, m, r, j, behind)
+    test_entry(file, len, o, kind[z], &lists.cells[a..], n, m, r, j, behind)
 }
 
 // The tests of the step at offset o of the payload, for k robots on a map of n vertices.
@@ -127,12 +125,11 @@ pub fn test_step<'a>(
     rows: &[[u64; 2]; 128],
     n: usize,
     k: usize,
-    cells: &[u8],
-    counts: &[u8; 64],
+    lists: &Lists,
 ) -> Result<Step, StepFault>
     requires len_in_bounds { (len ≤ length file.now / 512 * 504) × (o ≤ len) }
-    requires ready { Ready n k kind.now first.now size.now listed.now zone.now place.now rows.now counts.now cells.now }
-    ensures { StepTested file.now len o n k kind.now first.now size.now listed.now zone.now place.now rows.now counts.now cells.now result }
+    requires ready { Ready n k kind.now first.now size.now listed.now zone.now place.now rows.now lists.now.counts lists.now.cells }
+    ensures { StepTested file.now len o n k kind.now first.now size.now listed.now zone.now place.now rows.now lists.now.counts lists.now.cells result }
 {
     if len - o < 4 {
         return Err(StepFault::Short);
@@ -147,7 +144,7 @@ pub fn test_step<'a>(
     if !is_crossing(zone, rows, u, v) {
         return Err(StepFault::Edge);
     }
-    let stood = leave_at(kind, first, size, zone, place, cells, counts, r, u);
+    let stood = leave_at(kind, first, size, zone, place, lists, r, u);
     let out = stood.ok_or(StepFault::Leave)?;
     let Entry { into, list } = test_entry_at(
         file,
@@ -158,8 +155,7 @@ pub fn test_step<'a>(
         size,
         zone,
         place,
-        cells,
-        counts,
+        lists,
         r,
         v,
         bytes.fourth,

@@ -1,16 +1,10 @@
 // The rounds of a move list: last rounds are kept by robot and by vertex left, so that each move is looked at once.
 #![tactic(auto)]
 
-ghost use Rattle.std.specs.Prelude.{◌≡◌, [], ◌<◌, max};
+ghost use Rattle.std.specs.Prelude.{◌≡◌, [], ◌<◌};
 ghost use Rattle.spec.specs.State.{word_bytes, rounds_from};
 ghost use Rattle.writer.specs.Laid.{laid_all};
 ghost use Rattle.replay.specs.Moves.{moves_by, file_bytes};
-
-fn later(a: u32, b: u32) -> u32
-    ensures { result ≡ max a b }
-{
-    if a < b { b } else { a }
-}
 
 // Lays the round of each of the list's first `count` moves, after the two bytes of the count.
 pub fn write_rounds(file: &[u8], count: usize, out: &mut [u8])
@@ -19,20 +13,18 @@ pub fn write_rounds(file: &[u8], count: usize, out: &mut [u8])
 {
     let mut last = [0u32; 256];
     let mut left = [0u32; 256];
-    let mut at: usize = 8;
-    let mut place: usize = 8;
-    let mut i: usize = 0;
-    while i < count {
+    let mut at = 8;
+    let mut place = 8;
+    for _i in 0..count {
         let x = wire::three_from(file, at);
         let r = x.first as usize;
         let u = x.second as usize;
         let v = x.third as usize;
-        let round = later(last[r] + 1, left[v]);
+        let round = (last[r] + 1).max(left[v]);
         last[r] = round;
         left[u] = round;
         writer::put_word_at(out, place, round as u16);
         at = wire::place_after(at);
         place = writer::word_after(place);
-        i += 1;
     }
 }

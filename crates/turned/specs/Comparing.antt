@@ -1,26 +1,27 @@
 -- Whether a goal arrangement is in a ring's configuration: the same order up to turning, or if full the same arrangement.
-use Rattle.std.specs.Prelude.{◌≡◌, refl, ◌≢◌, Bool, true, false, List, [], ◌∷◌, ◌++◌, get_or, take, T}
+use Rattle.std.specs.Prelude.{◌≡◌, refl, ◌≢◌, Bool, true, false, not, List, [], ◌∷◌, ◌++◌, map, take, MatchOption, Option, Some, None, IfSome}
+use Rattle.std.specs.List.{list_all, filter, find, AllZip}
+use Rattle.std.specs.Iterator.{AlwaysYields, YieldsThen, ComparesItemsByEq}
+use Rattle.std.proofs.lemmas.Iterator.{YieldsList}
 use Rattle.std.proofs.Math.Path.{ap, ap₂, sym}
-use Rattle.std.proofs.Common.{◌∙◌, ⊎_elim, append-nil, add-one, arith, drop_of_length-le, take-append-drop, drop-cons}
-use Prim.Native.Nat.{ℕ, zero, suc, ◌+◌, ◌<◌, ◌≤◌}
+use Rattle.std.proofs.Common.{◌∙◌, arith}
+use Prim.Native.Nat.{ℕ, zero, suc}
 use Rattle.std.proofs.Math.Decide.{ℕ_discrete}
 use Rattle.std.proofs.Math.ListN.{length, drop}
 use Rattle.std.proofs.Math.Dec.{eqb}
-use borrow.Author.Tests.{eq-eqb, ne_eqb, eqb-false}
+use borrow.Author.Tests.{eq-eqb, ne_eqb, eqb-true, eqb-false}
+use mathlib.Core.Path.{subst}
+use Rattle.std.specs.Option.{option_map}
+use Rattle.numbering.specs.declared.Robot.{Robot}
 use Rattle.spec.specs.Outcome.{index_of, same_list}
-use Rattle.spec.specs.Arrangement.{Arrangement, cell, order, seek, full}
+use Rattle.spec.specs.Arrangement.{Arrangement, order, seek, full}
 use Rattle.spec.specs.State.{State, cell_of, robot_on, arrangement_of}
-use Rattle.spec.specs.Ring.{wrap, frame, turned, ring_can_end}
-use Rattle.theory.specs.Basics.Tests.{false_of, same→eq}
-use Rattle.theory.specs.Basics.Lists.{In, in_head, in_left, in_right, in_append, index_here, index_further}
-use Rattle.theory.specs.Maps.Cells.{cell_of_lem, cell_none, cell_robot, cell_empty}
-use Rattle.theory.specs.Zones.Arrangements.{order_append, member→cell, cell_inside}
-use Rattle.theory.specs.Basics.Searches.{seek_ok}
-use Rattle.motion.specs.Across.{arrangement_next}
+use Rattle.spec.specs.Ring.{frame, turned, ring_can_end}
+use Rattle.theory.specs.Basics.Lists.{index_here, index_further}
+use Rattle.theory.specs.Maps.Cells.{cell_of_lem, cell_none, cell_injective}
+use Rattle.theory.specs.Zones.Arrangements.{order_append}
 use Rattle.cells.specs.Cells.{seek_same, seek_other}
-use Rattle.circle.specs.Places.{wrap_in}
-use Rattle.circle.specs.Runs.{frame_size, frame_robot}
-use Rattle.cells.specs.Reading.{places_taken, places_free, places_over}
+use Rattle.circle.specs.Runs.{frame_arrangement}
 use Rattle.circle.specs.Reading.{vacant}
 
 -- ---- lists of robots, compared
@@ -34,16 +35,6 @@ same_head x y xs ys e = sym (ap (λ (b : Bool). elim b as (λ b. Bool) [ true �
 pub other_head : (x y : ℕ) (xs ys : List ℕ) → x ≢ y → false ≡ same_list (x ∷ xs) (y ∷ ys)
 unfolding same_list
 other_head x y xs ys n = sym (ap (λ (b : Bool). elim b as (λ b. Bool) [ true ↦ same_list xs ys | false ↦ false ]) (ne_eqb x y n))
-
--- a longer list is not the same
-longer : (x : ℕ) (xs : List ℕ) → false ≡ same_list (x ∷ xs) []
-unfolding same_list
-longer x xs = refl
-
--- a shorter list is not the same
-shorter : (y : ℕ) (ys : List ℕ) → false ≡ same_list [] (y ∷ ys)
-unfolding same_list
-shorter y ys = refl
 
 -- two empty lists are the same
 both_over : true ≡ same_list [] []
@@ -61,128 +52,105 @@ same_none a = go (order a)
 
 -- ---- arrangements, compared place by place
 
--- cells are alike as their robots are
-cell_same : (x y : ℕ) → cell_of x ≡ cell_of y → x ≡ y
-cell_same x y e = go (ℕ_discrete y 255)
+-- the same robots on the same places: the cells are the same
+pub cells_alike : (s t : State) (vs : List ℕ) → list_all (λ v. eqb (robot_on s v) (robot_on t v)) vs ≡ same_list (arrangement_of s vs) (arrangement_of t vs)
+unfolding arrangement_of
+cells_alike s t [] = both_over
+cells_alike s t (v ∷ vs) = at (ℕ_discrete (robot_on s v) (robot_on t v)) (cells_alike s t vs)
   where
-    go : Dec (y ≡ 255) → x ≡ y
-    go (yes d) = cell_empty x (e ∙ cell_none d) ∙ sym d
-    go (no d) = (cell_robot x y (e ∙ cell_of_lem d)).0
+    at : Dec (robot_on s v ≡ robot_on t v) → list_all (λ w. eqb (robot_on s w) (robot_on t w)) vs ≡ same_list (arrangement_of s vs) (arrangement_of t vs)
+        → list_all (λ w. eqb (robot_on s w) (robot_on t w)) (v ∷ vs) ≡ same_list (cell_of (robot_on s v) ∷ arrangement_of s vs) (cell_of (robot_on t v) ∷ arrangement_of t vs)
+    at (yes e) i = rw (eq-eqb _ _ e) (i ∙ same_head (cell_of (robot_on s v)) (cell_of (robot_on t v)) (arrangement_of s vs) (arrangement_of t vs) (ap cell_of e))
+    at (no n) i =
+        rw (ne_eqb _ _ n)
+        (other_head (cell_of (robot_on s v)) (cell_of (robot_on t v)) (arrangement_of s vs) (arrangement_of t vs) (λ q. n (cell_injective (robot_on s v) (robot_on t v) q)))
 
-module _ (s t : State) (vs : List ℕ) where
-  -- the same robot on place i of both: the rest decides
-  pub cells_on : (i x y : ℕ) → i < length vs → x ≡ robot_on s (get_or vs i 0) → y ≡ robot_on t (get_or vs i 0) → x ≡ y
-      → same_list (drop (i + 1) (arrangement_of s vs)) (drop (i + 1) (arrangement_of t vs)) ≡ same_list (drop i (arrangement_of s vs)) (drop i (arrangement_of t vs))
-  cells_on i x y h e f d =
-      same_head (cell_of x) (cell_of y) _ _ (ap cell_of d) ∙ sym (ap₂ same_list (arrangement_next s vs i x h e) (arrangement_next t vs i y h f))
+-- ---- the robots of a zone, in listed order
 
-  -- different robots on place i: not the same
-  pub cells_differ : (i x y : ℕ) → i < length vs → x ≡ robot_on s (get_or vs i 0) → y ≡ robot_on t (get_or vs i 0) → x ≢ y
-      → false ≡ same_list (drop i (arrangement_of s vs)) (drop i (arrangement_of t vs))
-  cells_differ i x y h e f n =
-      other_head (cell_of x) (cell_of y) (drop (i + 1) (arrangement_of s vs)) (drop (i + 1) (arrangement_of t vs)) (λ q. n (cell_same x y q))
-      ∙ sym (ap₂ same_list (arrangement_next s vs i x h e) (arrangement_next t vs i y h f))
+-- is x a robot
+abbrev pub robot? : ℕ → Bool
+robot? x = not (eqb x 255)
 
-  -- no place is left: the same
-  pub cells_over : (i : ℕ) → length vs ≤ i → true ≡ same_list (drop i (arrangement_of s vs)) (drop i (arrangement_of t vs))
-  cells_over i h = both_over ∙ sym (ap₂ same_list (places_over s vs i h) (places_over t vs i h))
+-- a robot's number
+abbrev pub number : Robot → ℕ
+number r = r.0
 
--- ---- the next robot of a ring read from place p on
+-- those that stand on the zone's vertices
+pub robots_listed : (s : State) (vs : List ℕ) → filter robot? (map (robot_on s) vs) ≡ order (arrangement_of s vs)
+unfolding order arrangement_of
+robots_listed s [] = refl
+robots_listed s (v ∷ vs) = at (ℕ_discrete (robot_on s v) 255) (robots_listed s vs)
+  where
+    at : Dec (robot_on s v ≡ 255) → filter robot? (map (robot_on s) vs) ≡ order (arrangement_of s vs)
+        → filter robot? (robot_on s v ∷ map (robot_on s) vs) ≡ order (cell_of (robot_on s v) ∷ arrangement_of s vs)
+    at (yes e) i = rw (eq-eqb _ _ e, cell_none e) i
+    at (no n) i = rw (ne_eqb _ _ n, cell_of_lem n) (ap (λ (l : List ℕ). robot_on s v ∷ l) i)
 
--- place i is the first taken one from place k on of f; the size where there is none
-pub record Taken (f : Arrangement) (k i : ℕ) : Type 0 where
-  pub within : i ≤ length f
-  pub same : order (drop i f) ≡ order (drop k f)
-  pub there : i < length f → cell f i ≢ 0
+-- those of the ring read from place q on
+pub robots_round : (s : State) (vs : List ℕ) (q : ℕ) → filter robot? (map (robot_on s) (drop q vs ++ take q vs)) ≡ order (frame q (arrangement_of s vs))
+robots_round s vs q = robots_listed s (drop q vs ++ take q vs) ∙ ap order (frame_arrangement s vs q)
 
-module _ (s : State) (vs : List ℕ) (p : ℕ) (h : p < length vs) where
-  -- an empty place is passed
-  pub taken_on : (k i x : ℕ) → i < length vs → x ≡ robot_on s (get_or vs (wrap (length vs) (p + i)) 0) → x ≡ 255
-      → order (drop i (frame p (arrangement_of s vs))) ≡ order (drop k (frame p (arrangement_of s vs)))
-      → order (drop (i + 1) (frame p (arrangement_of s vs))) ≡ order (drop k (frame p (arrangement_of s vs)))
-  unfolding order
-  taken_on k i x l e n d =
-      let f : Arrangement = frame p (arrangement_of s vs) in
-      let c : cell f i ≡ 0 = frame_robot s vs p h i l ∙ ap cell_of (sym e) ∙ cell_none n in
-      sym (ap order (drop-cons f i 0 (omega (arith, frame_size s vs p h)) ∙ ap₂ (λ (y j : ℕ). y ∷ drop j f) c (sym (add-one i)))) ∙ d
+-- what a search for the first of them finds
+first_robot : (s : State) (vs : List ℕ)
+    → MatchOption (find robot? (map (robot_on s) vs)) (order (arrangement_of s vs) ≡ []) (λ r. (rs : List ℕ) × (order (arrangement_of s vs) ≡ r ∷ rs))
+unfolding order arrangement_of
+first_robot s [] = refl
+first_robot s (v ∷ vs) = at (ℕ_discrete (robot_on s v) 255) (first_robot s vs)
+  where
+    at : Dec (robot_on s v ≡ 255) → MatchOption (find robot? (map (robot_on s) vs)) (order (arrangement_of s vs) ≡ []) (λ r. (rs : List ℕ) × (order (arrangement_of s vs) ≡ r ∷ rs))
+        → MatchOption (find robot? (robot_on s v ∷ map (robot_on s) vs)) (order (cell_of (robot_on s v) ∷ arrangement_of s vs) ≡ []) (λ r. (rs : List ℕ) × (order (cell_of (robot_on s v) ∷ arrangement_of s vs) ≡ r ∷ rs))
+    at (yes e) i = rw (eq-eqb _ _ e, cell_none e) i
+    at (no n) i = rw (ne_eqb _ _ n, cell_of_lem n) (order (arrangement_of s vs), refl)
 
-  -- a taken place is it
-  pub taken_here : (k i x : ℕ) → i < length vs → x ≡ robot_on s (get_or vs (wrap (length vs) (p + i)) 0) → x ≢ 255
-      → order (drop i (frame p (arrangement_of s vs))) ≡ order (drop k (frame p (arrangement_of s vs))) → Taken (frame p (arrangement_of s vs)) k i
-  taken_here k i x l e n d =
-      record {
-        within = omega (arith, frame_size s vs p h);
-        same = d;
-        there = λ z q. n (cell_empty x (ap cell_of e ∙ sym (frame_robot s vs p h i l) ∙ q));
-      }
+-- the same of the code's robots
+pub first_found : (s : State) (vs : List ℕ) (r : Option Robot) → option_map number r ≡ find robot? (map (robot_on s) vs)
+    → MatchOption r (order (arrangement_of s vs) ≡ []) (λ x. (rs : List ℕ) × (order (arrangement_of s vs) ≡ x.0 ∷ rs))
+first_found s vs None e = subst (λ o. MatchOption o (order (arrangement_of s vs) ≡ []) (λ x. (rs : List ℕ) × (order (arrangement_of s vs) ≡ x ∷ rs))) (sym e) (first_robot s vs)
+first_found s vs (Some x) e = subst (λ o. MatchOption o (order (arrangement_of s vs) ≡ []) (λ x. (rs : List ℕ) × (order (arrangement_of s vs) ≡ x ∷ rs))) (sym e) (first_robot s vs)
 
-  -- no place is
-  pub taken_over : (k i : ℕ) → i ≡ length vs → order (drop i (frame p (arrangement_of s vs))) ≡ order (drop k (frame p (arrangement_of s vs)))
-      → Taken (frame p (arrangement_of s vs)) k i
-  taken_over k i l d = record { within = omega (arith, frame_size s vs p h); same = d; there = λ z. absurd (omega (arith, frame_size s vs p h)) }
+-- ---- what `eq` of two iterators answers
 
-  -- the robots from there on
-  pub robots_none : (k i : ℕ) → Taken (frame p (arrangement_of s vs)) k i → i ≡ length vs → order (drop k (frame p (arrangement_of s vs))) ≡ []
-  unfolding order
-  robots_none k i t e = sym t.same ∙ ap order (drop_of_length-le (frame p (arrangement_of s vs)) {i = i} (omega (arith, frame_size s vs p h)))
+module _ {S T A : Type 0} (steps : S → Option A → S → Type 0) (others : T → Option A → T → Type 0) (v : A → ℕ) (eq : A → A → Bool)
+    (agree : (x y : A) → eq x y ≡ eqb (v x) (v y)) (r : Bool) where
+  -- the last answers of both
+  abbrev Last : Option A → Option A → Type 0
+  Last o p = MatchOption o (MatchOption p (r ≡ true) (λ _. r ≡ false)) (λ x. (r ≡ false) × IfSome p (λ y. eq x y ≡ false))
 
-  -- the next robot is the one on the place found
-  pub robots_next : (k i x : ℕ) → Taken (frame p (arrangement_of s vs)) k i → i ≢ length vs → x ≡ robot_on s (get_or vs (wrap (length vs) (p + i)) 0)
-      → order (drop k (frame p (arrangement_of s vs))) ≡ x ∷ order (drop (i + 1) (frame p (arrangement_of s vs)))
-  unfolding order
-  robots_next k i x t n e =
-      let f : Arrangement = frame p (arrangement_of s vs) in
-      let l : i < length vs = omega (arith, t.within, frame_size s vs p h) in
-      let c : cell f i ≡ suc x = frame_robot s vs p h i l ∙ ap cell_of (sym e) ∙ cell_of_lem (λ q. t.there (omega (arith, frame_size s vs p h)) (frame_robot s vs p h i l ∙ ap cell_of (sym e) ∙ cell_none q)) in
-      sym t.same ∙ ap order (drop-cons f i 0 (omega (arith, frame_size s vs p h)) ∙ ap₂ (λ (y j : ℕ). y ∷ drop j f) c (sym (add-one i)))
+  at_last : (o p : Option A) (xs ys : List ℕ) (s u : S) (t w : T) → AlwaysYields steps v s xs → AlwaysYields others v t ys → steps s o u → others t p w → Last o p → r ≡ same_list xs ys
+  unfolding same_list
+  at_last None None (x ∷ xs) ys s u t w e f a b h = absurd (e.0 u a)
+  at_last None (Some y) (x ∷ xs) ys s u t w e f a b h = absurd (e.0 u a)
+  at_last (Some x) None [] ys s u t w e f a b h = absurd (e x u a)
+  at_last (Some x) (Some y) [] ys s u t w e f a b h = absurd (e x u a)
+  at_last None None [] (y ∷ ys) s u t w e f a b h = absurd (f.0 w b)
+  at_last None (Some y) [] [] s u t w e f a b h = absurd (f y w b)
+  at_last (Some x) None (z ∷ xs) (y ∷ ys) s u t w e f a b h = absurd (f.0 w b)
+  at_last (Some x) (Some y) (z ∷ xs) [] s u t w e f a b h = absurd (f y w b)
+  at_last None None [] [] s u t w e f a b h = h
+  at_last None (Some y) [] (z ∷ ys) s u t w e f a b h = h
+  at_last (Some x) None (z ∷ xs) [] s u t w e f a b h = h.0
+  at_last (Some x) (Some y) (x' ∷ xs) (y' ∷ ys) s u t w e f a b h =
+      h.0 ∙ other_head x' y' xs ys (eqb-false x' y' (ap₂ eqb (sym (e.1 x u a).0) (sym (f.1 y w b).0) ∙ sym (agree x y) ∙ h.1))
 
--- ---- two rounds of robots, compared
+  along : (cs bs : List A) (o p : Option A) (xs ys : List ℕ) (s u : S) (t w : T) → AlwaysYields steps v s xs → AlwaysYields others v t ys
+      → YieldsThen steps s cs o u → YieldsThen others t bs p w → AllZip (λ x y. eq x y ≡ true) cs bs → Last o p → r ≡ same_list xs ys
+  along [] [] o p xs ys s u t w e f a b z h = at_last o p xs ys s u t w e f (subst (λ j. steps j o u) (sym a.1) a.2) (subst (λ j. others j p w) (sym b.1) b.2) h
+  along [] (y ∷ bs) o p xs ys s u t w e f a b z h = absurd z
+  along (x ∷ cs) [] o p xs ys s u t w e f a b z h = absurd z
+  along (x ∷ cs) (y ∷ bs) o p [] ys s u t w e f a b z h = absurd (e x a.1.0 a.1.1)
+  along (x ∷ cs) (y ∷ bs) o p (x' ∷ xs) [] s u t w e f a b z h = absurd (f y b.1.0 b.1.1)
+  along (x ∷ cs) (y ∷ bs) o p (x' ∷ xs) (y' ∷ ys) s u t w e f a b z h =
+      let m = e.1 x a.1.0 a.1.1 in
+      let n = f.1 y b.1.0 b.1.1 in
+      along cs bs o p xs ys a.1.0 u b.1.0 w m.1 n.1 (a.0, a.1.2, a.2) (b.0, b.1.2, b.2) z.1 h
+      ∙ same_head x' y' xs ys (eqb-true x' y' (ap₂ eqb (sym m.0) (sym n.0) ∙ sym (agree x y) ∙ z.0))
 
-module _ (s t : State) (vs : List ℕ) (q : ℕ) (h : q < length vs) where
-  -- nobody on place i
-  pub rounds_free : (i k x : ℕ) → i < length vs → x ≡ robot_on s (get_or vs i 0) → x ≡ 255
-      → same_list (order (drop (i + 1) (arrangement_of s vs))) (order (drop k (frame q (arrangement_of t vs)))) ≡ same_list (order (drop i (arrangement_of s vs))) (order (drop k (frame q (arrangement_of t vs))))
-  unfolding order
-  rounds_free i k x l e n = sym (ap (λ (a : Arrangement). same_list (order a) (order (drop k (frame q (arrangement_of t vs))))) (places_free s vs i x l e n))
-
-  -- a robot on place i, and no more in the other ring
-  pub rounds_short : (i k j x : ℕ) → i < length vs → x ≡ robot_on s (get_or vs i 0) → x ≢ 255 → Taken (frame q (arrangement_of t vs)) k j → j ≡ length vs
-      → false ≡ same_list (order (drop i (arrangement_of s vs))) (order (drop k (frame q (arrangement_of t vs))))
-  unfolding order
-  rounds_short i k j x l e n w d =
-      longer x (order (drop (i + 1) (arrangement_of s vs)))
-      ∙ sym (ap₂ same_list (ap order (places_taken s vs i x l e n)) (robots_none t vs q h k j w d))
-
-  -- a robot on place i, and another one next in the other ring
-  pub rounds_differ : (i k j x y : ℕ) → i < length vs → x ≡ robot_on s (get_or vs i 0) → x ≢ 255 → Taken (frame q (arrangement_of t vs)) k j → j ≢ length vs
-      → y ≡ robot_on t (get_or vs (wrap (length vs) (q + j)) 0) → x ≢ y
-      → false ≡ same_list (order (drop i (arrangement_of s vs))) (order (drop k (frame q (arrangement_of t vs))))
-  unfolding order
-  rounds_differ i k j x y l e n w d g z =
-      other_head x y (order (drop (i + 1) (arrangement_of s vs))) (order (drop (j + 1) (frame q (arrangement_of t vs)))) z
-      ∙ sym (ap₂ same_list (ap order (places_taken s vs i x l e n)) (robots_next t vs q h k j y w d g))
-
-  -- a robot on place i, and the same next in the other ring
-  pub rounds_on : (i k j x y : ℕ) → i < length vs → x ≡ robot_on s (get_or vs i 0) → x ≢ 255 → Taken (frame q (arrangement_of t vs)) k j → j ≢ length vs
-      → y ≡ robot_on t (get_or vs (wrap (length vs) (q + j)) 0) → x ≡ y
-      → same_list (order (drop (i + 1) (arrangement_of s vs))) (order (drop (j + 1) (frame q (arrangement_of t vs))))
-      ≡ same_list (order (drop i (arrangement_of s vs))) (order (drop k (frame q (arrangement_of t vs))))
-  unfolding order
-  rounds_on i k j x y l e n w d g z =
-      same_head x y (order (drop (i + 1) (arrangement_of s vs))) (order (drop (j + 1) (frame q (arrangement_of t vs)))) z
-      ∙ sym (ap₂ same_list (ap order (places_taken s vs i x l e n)) (robots_next t vs q h k j y w d g))
-
-  -- no robot left: the other ring has none left either
-  pub rounds_over : (i k j : ℕ) → length vs ≤ i → Taken (frame q (arrangement_of t vs)) k j
-      → eqb j (length vs) ≡ same_list (order (drop i (arrangement_of s vs))) (order (drop k (frame q (arrangement_of t vs))))
-  unfolding order
-  rounds_over i k j l w = go (ℕ_discrete j (length vs))
-    where
-      go : Dec (j ≡ length vs) → eqb j (length vs) ≡ same_list (order (drop i (arrangement_of s vs))) (order (drop k (frame q (arrangement_of t vs))))
-      go (yes d) = eq-eqb _ _ d ∙ both_over ∙ sym (ap₂ same_list (ap order (places_over s vs i l)) (robots_none t vs q h k j w d))
-      go (no d) =
-          ne_eqb _ _ d ∙ shorter (robot_on t (get_or vs (wrap (length vs) (q + j)) 0)) (order (drop (j + 1) (frame q (arrangement_of t vs))))
-          ∙ sym (ap₂ same_list (ap order (places_over s vs i l)) (robots_next t vs q h k j _ w d refl))
+-- it is the test of their lists
+pub same_from_eq : {S U T A : Type 0} {steps : S → Option A → S → Type 0} {others : T → Option A → T → Type 0} {v : A → ℕ} {s : S} {eq : A → A → Bool} {xs ys : List ℕ}
+    (becomes : U → T → Type 0) (other : U) (r : Bool) → ComparesItemsByEq steps becomes others s other eq r
+    → YieldsList steps v s xs → ((it : T) → becomes other it → YieldsList others v it ys) → ((x y : A) → eq x y ≡ eqb (v x) (v y)) → r ≡ same_list xs ys
+same_from_eq {steps = steps} {others = others} {v = v} {s = s} {eq = eq} {xs = xs} {ys = ys} becomes other r d e f agree =
+    along steps others v eq agree r d.1 d.2 d.3 d.4 xs ys s d.5 d.0 d.6 e.runs (f d.0 d.7).runs d.8 d.9 d.10 d.11
 
 -- ---- turned
 
@@ -221,19 +189,6 @@ pub turned_from : (a g : Arrangement) (r q : ℕ) (rs : List ℕ) → order a �
     → same_list (order a) (order (frame q g)) ≡ turned (order a) (order g)
 turned_from a g r q rs e d = rw (e, d) (sym (turned_round r rs g))
 
--- the first robot has no place in the goal
-pub turned_out : (a g : Arrangement) (r q : ℕ) (rs : List ℕ) → order a ≡ r ∷ rs → q ≡ seek (suc r) g → q ≡ length g → false ≡ turned (order a) (order g)
-unfolding frame
-turned_out a g r q rs e d n = sym (false_of none) ∙ turned_from a g r q rs e d
-  where
-    none : T (same_list (order a) (order (frame q g))) → ⊥
-    none t =
-        let b : r ∷ rs ≡ order (drop q g) ++ order (take q g) = sym e ∙ same→eq _ _ t ∙ order_append (drop q g) (take q g) in
-        let i : In r (order (drop q g) ++ order (take q g)) = rw (← b) (in_head r rs) in
-        let k : In r (order (take q g) ++ order (drop q g)) = ⊎_elim (λ u. in_right r (order (take q g)) (order (drop q g)) u) (λ u. in_left r (order (take q g)) (order (drop q g)) u) (in_append r (order (drop q g)) (order (take q g)) i) in
-        let w = member→cell g r (rw (← order_append (take q g) (drop q g), take-append-drop q g) at k) in
-        omega (arith, (seek_ok (suc r) g w.0 (cell_inside g w.0 r w.1) w.1).1)
-
 -- ---- the whole question
 
 -- in a full ring the arrangements are compared
@@ -245,27 +200,3 @@ end_full a g e = rw (e, ring_can_end)
 pub end_open : (a g : Arrangement) → full a ≡ false → turned (order a) (order g) ≡ ring_can_end a g
 unfolding ring_can_end
 end_open a g e = rw (e, ring_can_end)
-
--- a ring that is not full has a place
-pub full_some : (a : Arrangement) → full a ≡ false → 0 < length a
-unfolding full order
-full_some [] e = absurd (let z : eqb 0 0 ≡ false = e in eqb-false 0 0 z refl)
-full_some (x ∷ a) e = omega arith
-
--- a ring read from its first place on
-frame_first : (a : Arrangement) → frame 0 a ≡ a
-unfolding frame
-frame_first a = append-nil a
-
-module _ (s : State) (vs : List ℕ) (h : 0 < length vs) where
-  -- no place is taken: there is no robot
-  pub first_none : (i : ℕ) → Taken (frame 0 (arrangement_of s vs)) 0 i → i ≡ length vs → order (arrangement_of s vs) ≡ []
-  first_none i t e = ap order (sym (frame_first (arrangement_of s vs))) ∙ robots_none s vs 0 h 0 i t e
-
-  -- the first taken place has the first robot of the order
-  pub first_robot : (i x : ℕ) → Taken (frame 0 (arrangement_of s vs)) 0 i → i ≢ length vs → x ≡ robot_on s (get_or vs i 0)
-      → order (arrangement_of s vs) ≡ x ∷ order (drop (i + 1) (frame 0 (arrangement_of s vs)))
-  first_robot i x t n e =
-      let l : i < length vs = omega (arith, t.within, frame_size s vs 0 h) in
-      ap order (sym (frame_first (arrangement_of s vs)))
-      ∙ robots_next s vs 0 h 0 i x t n (e ∙ ap (λ (k : ℕ). robot_on s (get_or vs k 0)) (sym (ap (wrap (length vs)) (omega arith) ∙ wrap_in (length vs) i l)))

@@ -3,10 +3,10 @@ ghost use Rattle.std.specs.Prelude.{◌≡◌};
 ghost use Rattle.spec.specs.Ring.{ring_can_leave, ring_can_enter, ring_can_end};
 ghost use Rattle.spec.specs.State.{arrangement_of};
 
-use motion::State;
 use crate::comparing::{same_cells, same_turned};
 use cells::{is_full, place_of, stands};
 use circle::reading::is_vacant;
+use motion::State;
 use numbering::Robot;
 
 // Can robot r leave at place j: anywhere, but in a full ring only where it stands.
@@ -23,14 +23,8 @@ pub fn can_leave(state: &State, zone: &[u8], r: Robot, j: usize) -> bool
 pub fn can_enter(state: &State, zone: &[u8], j: usize, behind: u8) -> bool
     ensures { result ≡ ring_can_enter (arrangement_of state.now zone.now) j behind }
 {
-    if place_of(state, zone, Robot(behind)) < zone.len() {
-        return true;
-    }
     let alone = behind == 255;
-    if alone {
-        return is_vacant(state, zone);
-    }
-    false
+    place_of(state, zone, Robot(behind)) < zone.len() || alone && is_vacant(state, zone)
 }
 
 // Are the goals in the ring's configuration: the order of the robots up to turning, or if full the arrangement.

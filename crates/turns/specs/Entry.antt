@@ -1,17 +1,16 @@
 -- Entering a ring: the robot behind a place, and the pushes until the named one is there.
-use Rattle.std.specs.Prelude.{◌≡◌, refl, ◌≢◌, Bool, true, false, ℕ, zero, suc, ◌+◌, ◌-◌, ◌<◌, List, [], ◌∷◌, ◌++◌, length, get_or, take, T, eqb}
+use Rattle.std.specs.Prelude.{◌≡◌, refl, ◌≢◌, Bool, true, false, ℕ, zero, suc, ◌+◌, ◌-◌, ◌<◌, List, [], ◌∷◌, ◌++◌, length, take, T, eqb}
 use Rattle.std.proofs.Math.Path.{ap, sym}
-use Rattle.std.proofs.Common.{◌∙◌, ⊎_elim, add-one, arith, drop-cons, take-suc, take_all, eq-eqb, ne_eqb}
+use Rattle.std.proofs.Common.{◌∙◌, add-one, arith, drop-cons, take-suc, take_all, eq-eqb, ne_eqb}
 use Rattle.std.proofs.Math.Decide.{ℕ_discrete}
 use Rattle.spec.specs.Outcome.{member}
 use Rattle.spec.specs.Arrangement.{Arrangement, cell, order, last_named}
 use Rattle.spec.specs.Ring.{wrap, frame, opened, ring_behind}
-use Rattle.spec.specs.State.{State, cell_of, robot_on, arrangement_of}
+use Rattle.spec.specs.State.{State, cell_of, arrangement_of}
 use Rattle.theory.specs.Basics.Lists.{in_head, in_tail}
-use Rattle.theory.specs.Maps.Cells.{cell_of_lem, cell_none, cell_robot}
+use Rattle.theory.specs.Maps.Cells.{cell_of_lem, cell_none}
 use Rattle.theory.specs.Zones.Ring.Opened.{length_opened}
-use Rattle.motion.specs.Across.{arrangement_length, arrangement_at}
-use Rattle.circle.specs.Places.{wrap_is, wrap_under}
+use Rattle.motion.specs.Across.{arrangement_length}
 use Rattle.circle.specs.Runs.{frame_at}
 
 -- the ring read from place j on: what stands there, then the other places
@@ -69,31 +68,20 @@ last_none (suc r ∷ f) n e = absurd (go (ℕ_discrete (last_named f) 255))
     go (yes d) = n 0 (ap suc (sym (ap (λ (b : Bool). elim b as (λ b. ℕ) [ true ↦ r | false ↦ last_named f ]) (eq-eqb _ _ d)) ∙ e))
     go (no d) = d (sym (ap (λ (b : Bool). elim b as (λ b. ℕ) [ true ↦ r | false ↦ last_named f ]) (ne_eqb _ _ d)) ∙ e)
 
--- p is the place of the first robot met going backward from place j; j itself where none is met
-pub record Behind (a : Arrangement) (j p : ℕ) : Type 0 where
-  pub within : p < length a
-  pub nobody : p ≡ j → ring_behind a j ≡ 255
-  pub somebody : p ≢ j → cell a p ≡ suc (ring_behind a j)
-
 module _ (s : State) (vs : List ℕ) (j : ℕ) (h : j < length vs) where
   -- place j is one of the arrangement's
   inside : j < length (arrangement_of s vs)
   inside = omega (arith, arrangement_length s vs)
 
-  -- who stands on place k of the opened ring
-  opened_robot : (k : ℕ) → k + 1 < length vs → cell (opened j (arrangement_of s vs)) k ≡ cell_of (robot_on s (get_or vs (wrap (length vs) (j + (k + 1))) 0))
-  opened_robot k l =
+  -- what stands on place k of the opened ring
+  opened_cell : (k : ℕ) → k + 1 < length vs → cell (opened j (arrangement_of s vs)) k ≡ cell (arrangement_of s vs) (wrap (length vs) (j + (k + 1)))
+  opened_cell k l =
       opened_at j (arrangement_of s vs) k inside (omega (arith, arrangement_length s vs))
       ∙ ap (λ (m : ℕ). cell (arrangement_of s vs) (wrap m (j + (k + 1)))) (arrangement_length s vs)
-      ∙ arrangement_at s vs (wrap (length vs) (j + (k + 1))) (wrap_under (length vs) j (k + 1) h (omega arith))
 
   -- the opened ring has one place fewer
   opened_size : suc (length (opened j (arrangement_of s vs))) ≡ length vs
   opened_size = length_opened j (arrangement_of s vs) inside ∙ arrangement_length s vs
-
-  -- the walk begins at j, with all other places before it
-  pub walk_start : j ≡ wrap (length vs) (j + (length vs - 1 + 1))
-  walk_start = ⊎_elim (λ w. absurd (omega arith)) (λ w. omega arith) (wrap_is (length vs) (j + (length vs - 1 + 1)))
 
   -- all other places are yet to be looked at
   pub walk_all : last_named (take (length vs - 1) (opened j (arrangement_of s vs))) ≡ ring_behind (arrangement_of s vs) j
@@ -101,53 +89,24 @@ module _ (s : State) (vs : List ℕ) (j : ℕ) (h : j < length vs) where
   walk_all = ap last_named (take_all (length vs - 1) (opened j (arrangement_of s vs)) (omega (arith, opened_size)))
 
   -- an empty place is passed
-  pub walk_free : (k x : ℕ) → k + 1 < length vs → x ≡ robot_on s (get_or vs (wrap (length vs) (j + (k + 1))) 0) → x ≡ 255
+  pub walk_free : (k x : ℕ) → k + 1 < length vs → cell_of x ≡ cell (arrangement_of s vs) (wrap (length vs) (j + (k + 1))) → x ≡ 255
       → last_named (take k (opened j (arrangement_of s vs))) ≡ last_named (take (k + 1) (opened j (arrangement_of s vs)))
   walk_free k x l e n =
       let f : Arrangement = opened j (arrangement_of s vs) in
-      let d : cell f k ≡ 0 = opened_robot k l ∙ ap cell_of (sym e) ∙ cell_none n in
+      let d : cell f k ≡ 0 = opened_cell k l ∙ sym e ∙ cell_none n in
       sym (ap (λ (i : ℕ). last_named (take i f)) (add-one k) ∙ ap last_named (take-suc f k 0 (omega (arith, opened_size)) ∙ ap (λ (y : ℕ). take k f ++ (y ∷ [])) d)
       ∙ last_free_lem (take k f))
 
   -- at a robot the walk ends
-  pub walk_taken : (k x p : ℕ) → k + 1 < length vs → p ≡ wrap (length vs) (j + (k + 1)) → x ≡ robot_on s (get_or vs p 0) → x ≢ 255
-      → last_named (take (k + 1) (opened j (arrangement_of s vs))) ≡ ring_behind (arrangement_of s vs) j → Behind (arrangement_of s vs) j p
-  walk_taken k x p l q e n b =
-      record {
-        within = omega (arith, arrangement_length s vs, wrap_under (length vs) j (k + 1) h (omega arith));
-        nobody = λ z. absurd (away z);
-        somebody =
-            λ z. arrangement_at s vs p (omega (arith, wrap_under (length vs) j (k + 1) h (omega arith))) ∙ ap cell_of (sym e) ∙ cell_of_lem n ∙ ap suc (sym (sym b ∙ found));
-      }
-    where
-      away : p ≢ j
-      away z = ⊎_elim (λ w. omega arith) (λ w. omega arith) (wrap_is (length vs) (j + (k + 1)))
-
-      there : cell (opened j (arrangement_of s vs)) k ≡ suc x
-      there = opened_robot k l ∙ ap (λ (i : ℕ). cell_of (robot_on s (get_or vs i 0))) (sym q) ∙ ap cell_of (sym e) ∙ cell_of_lem n
-
-      found : last_named (take (k + 1) (opened j (arrangement_of s vs))) ≡ x
-      found =
-          ap (λ (i : ℕ). last_named (take i (opened j (arrangement_of s vs)))) (add-one k)
-          ∙ ap last_named (take-suc (opened j (arrangement_of s vs)) k 0 (omega (arith, opened_size)) ∙ ap (λ (y : ℕ). take k (opened j (arrangement_of s vs)) ++ (y ∷ [])) there)
-          ∙ last_taken (take k (opened j (arrangement_of s vs))) x n
+  pub walk_taken : (k x : ℕ) → k + 1 < length vs → cell_of x ≡ cell (arrangement_of s vs) (wrap (length vs) (j + (k + 1))) → x ≢ 255
+      → x ≡ last_named (take (k + 1) (opened j (arrangement_of s vs)))
+  walk_taken k x l e n =
+      let f : Arrangement = opened j (arrangement_of s vs) in
+      let d : cell f k ≡ suc x = opened_cell k l ∙ sym e ∙ cell_of_lem n in
+      sym (ap (λ (i : ℕ). last_named (take i f)) (add-one k) ∙ ap last_named (take-suc f k 0 (omega (arith, opened_size)) ∙ ap (λ (y : ℕ). take k f ++ (y ∷ [])) d)
+      ∙ last_taken (take k f) x n)
 
   -- nobody was met
-  pub walk_over : (k : ℕ) → k ≡ 0 → last_named (take k (opened j (arrangement_of s vs))) ≡ ring_behind (arrangement_of s vs) j → Behind (arrangement_of s vs) j j
+  pub walk_over : (k : ℕ) → k ≡ 0 → 255 ≡ last_named (take k (opened j (arrangement_of s vs)))
   unfolding last_named
-  walk_over k e b =
-      record {
-        within = inside;
-        nobody = λ z. sym (ap (λ (i : ℕ). last_named (take i (opened j (arrangement_of s vs)))) (sym e) ∙ b);
-        somebody = λ z. absurd (z refl);
-      }
-
-  -- the robot on the place found
-  pub behind_none : (p : ℕ) → Behind (arrangement_of s vs) j p → p ≡ j → 255 ≡ ring_behind (arrangement_of s vs) j
-  behind_none p B e = sym (B.nobody e)
-
-  -- the robot on the place found is the one behind
-  pub behind_robot : (p x : ℕ) → Behind (arrangement_of s vs) j p → x ≡ robot_on s (get_or vs p 0) → p ≢ j → x ≡ ring_behind (arrangement_of s vs) j
-  behind_robot p x B e n =
-      (cell_robot x (ring_behind (arrangement_of s vs) j)
-      (ap cell_of e ∙ sym (arrangement_at s vs p (omega (arith, B.within, arrangement_length s vs))) ∙ B.somebody n)).0
+  walk_over k e = sym (ap (λ (i : ℕ). last_named (take i (opened j (arrangement_of s vs)))) e)

@@ -273,14 +273,12 @@ unfolding goes_on
 goes_front a j p n = ap (λ (b : Bool). elim b as (λ b. Bool) [ true ↦ false | false ↦ eqb (cell a (next_place (length a) p)) 0 ]) (ne_eqb p j n)
 
 -- nobody is the robot 255
-pub goes_on_lem : (s : State) (vs : List ℕ) (j p x : ℕ) → p < length vs → p ≢ j → x ≡ robot_on s (get_or vs (next_place (length vs) p) 0) → eqb x 255 ≡ goes_on (arrangement_of s vs) j p
-goes_on_lem s vs j p x h n e = nobody (ℕ_discrete x 255) ∙ ap (λ (y : ℕ). eqb y 0) (sym who) ∙ sym (goes_front (arrangement_of s vs) j p n)
+pub goes_on_lem : (s : State) (vs : List ℕ) (j p x : ℕ) → p ≢ j → cell_of x ≡ cell (arrangement_of s vs) (next_place (length vs) p) → eqb x 255 ≡ goes_on (arrangement_of s vs) j p
+goes_on_lem s vs j p x n e =
+    nobody (ℕ_discrete x 255)
+    ∙ ap (λ (y : ℕ). eqb y 0) (e ∙ ap (λ (m : ℕ). cell (arrangement_of s vs) (next_place m p)) (sym (arrangement_length s vs)))
+    ∙ sym (goes_front (arrangement_of s vs) j p n)
   where
-    who : cell (arrangement_of s vs) (next_place (length (arrangement_of s vs)) p) ≡ cell_of x
-    who =
-        ap (λ (m : ℕ). cell (arrangement_of s vs) (next_place m p)) (arrangement_length s vs)
-        ∙ arrangement_at s vs (next_place (length vs) p) (next_under (length vs) p h) ∙ ap cell_of (sym e)
-
     nobody : Dec (x ≡ 255) → eqb x 255 ≡ eqb (cell_of x) 0
     nobody (yes q) = eq-eqb _ _ q ∙ sym (eq-eqb _ _ (cell_none q))
     nobody (no q) = ne_eqb _ _ q ∙ sym (ne_eqb _ _ (λ z. q (cell_empty x z)))

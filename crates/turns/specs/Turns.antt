@@ -1,6 +1,6 @@
 -- Entering a ring: pushes until the named robot is behind the place and the place is empty.
-use Rattle.std.specs.Prelude.{◌≡◌, refl, ◌≢◌, Bool, true, false, ℕ, zero, suc, ◌+◌, ◌-◌, ◌*◌, ◌<◌, ◌≤◌, List, [], ◌∷◌, ◌++◌, map, length, get_or, take, drop, eqb}
-use Rattle.std.proofs.Common.{ap, ap₂, sym, ◌∙◌, arith, not-suc-le-zero, mul-le-mul, take-append-drop, eq-eqb, ne_eqb}
+use Rattle.std.specs.Prelude.{◌≡◌, refl, ◌≢◌, Bool, true, false, ℕ, zero, suc, ◌+◌, ◌*◌, ◌<◌, List, [], ◌∷◌, ◌++◌, map, length, get_or, take, drop, eqb}
+use Rattle.std.proofs.Common.{ap, ap₂, sym, ◌∙◌, arith, take-append-drop, eq-eqb, ne_eqb}
 use Rattle.std.proofs.Math.Decide.{ℕ_discrete, dec_lt}
 use Rattle.std.proofs.Math.ListN.{get_or-eq_default}
 use Rattle.spec.specs.Outcome.{◌and◌}
@@ -15,7 +15,6 @@ use Rattle.motion.specs.World.{World, made_all, made_none}
 use Rattle.motion.specs.Across.{made_both, across_nil, arrangement_length, arrangement_at}
 use Rattle.motion.specs.Coupling.{Listed, arranged}
 use Rattle.circle.specs.Pushes.{inside_push}
-use Rattle.cells.specs.Reading.{seek_nobody}
 use Rattle.circle.specs.Reading.{never_256}
 use Rattle.turns.specs.Entry.{frame_opened, opened_at, last_stands, last_none}
 
@@ -106,6 +105,16 @@ behind_stands a j h n =
     let e : cell a (wrap (length a) (j + (w.0 + 1))) ≡ suc (ring_behind a j) = sym (opened_at j a w.0 h l) ∙ w.1 in
     (seek_ok (suc (ring_behind a j)) a (wrap (length a) (j + (w.0 + 1))) (cell_inside a _ (ring_behind a j) e) e).1
 
+-- the same in a zone
+pub behind_inside : (s : State) (vs : List ℕ) (j : ℕ) → j < length vs → (b : ℕ) → b ≡ ring_behind (arrangement_of s vs) j → b ≢ 255 → seek (suc b) (arrangement_of s vs) < length vs
+behind_inside s vs j h b e n =
+    omega (
+      arith,
+      ap (λ (y : ℕ). seek (suc y) (arrangement_of s vs)) e,
+      behind_stands (arrangement_of s vs) j (omega (arith, arrangement_length s vs)) (λ q. n (e ∙ q)),
+      arrangement_length s vs,
+    )
+
 -- no robot is 255
 pub no_255 : (s : State) (vs : List ℕ) (i : ℕ) → cell (arrangement_of s vs) i ≢ 256
 no_255 s vs i e = go (dec_lt i (length vs))
@@ -146,30 +155,26 @@ turn_done (suc n) a j named h m e = go (entry_open a j named) refl
     go false d = free (cell a j) refl d
 
 -- a push is needed: it is made first
-turn_more : (n : ℕ) (a b : Arrangement) (j named p : ℕ) → 0 < n → p ≡ turn_at a j named → p ≢ length a → b ≡ apply_all a (push a p)
-    → turn_for n a j named ≡ push a p ++ turn_for (n - 1) b j named
+turn_more : (n k : ℕ) (a b : Arrangement) (j named p : ℕ) → n ≡ suc k → p ≡ turn_at a j named → p ≢ length a → b ≡ apply_all a (push a p)
+    → turn_for n a j named ≡ push a p ++ turn_for k b j named
 unfolding turn_for
-turn_more zero a b j named p h e q d = absurd (not-suc-le-zero h)
-turn_more (suc n) a b j named p h e q d = go (entry_open a j named) refl
+turn_more n k a b j named p h e q d = go (entry_open a j named) refl
   where
-    go : (t : Bool) → entry_open a j named ≡ t → turn_for (suc n) a j named ≡ push a p ++ turn_for (suc n - 1) b j named
+    go : (t : Bool) → entry_open a j named ≡ t → turn_for n a j named ≡ push a p ++ turn_for k b j named
     go true f = absurd (q (e ∙ turn_open a j named f))
-    go false f =
-        let z : suc n - 1 ≡ n = omega arith in
-        let g : turn_place a j ≡ p = sym (e ∙ turn_shut a j named f) in
-        rw (f, turn_for) (rw (z, d, g))
+    go false f = let g : turn_place a j ≡ p = sym (e ∙ turn_shut a j named f) in rw (h, f, turn_for) (rw (d, g))
 
 -- one push, then the rest
-pub turn_step : (w u : World) (vs : List ℕ) (j named p n : ℕ) → Listed (length w.state.robots) vs → p < length vs → 0 < n
+pub turn_step : (w u : World) (vs : List ℕ) (j named p n k : ℕ) → Listed (length w.state.robots) vs → p < length vs → n ≡ suc k
     → p ≡ turn_at (arrangement_of w.state vs) j named → u ≡ made_all w (across vs (push (arrangement_of w.state vs) p))
-    → made_all u (across vs (turn_for (n - 1) (arrangement_of u.state vs) j named))
+    → made_all u (across vs (turn_for k (arrangement_of u.state vs) j named))
     ≡ made_all w (across vs (turn_for n (arrangement_of w.state vs) j named))
 unfolding arrangement_of
-turn_step w u vs j named p n M h z d k =
-    made_both w u vs (push (arrangement_of w.state vs) p) (turn_for (n - 1) (arrangement_of u.state vs) j named) k
+turn_step w u vs j named p n k M h z d e =
+    made_both w u vs (push (arrangement_of w.state vs) p) (turn_for k (arrangement_of u.state vs) j named) e
     ∙ ap (λ (ms : List Move). made_all w (across vs ms))
-    (sym (turn_more n (arrangement_of w.state vs) (arrangement_of u.state vs) j named p z d (λ q. omega (arith, q, arrangement_length w.state vs))
-    (arranged w u vs (push (arrangement_of w.state vs) p) M (inside_push w.state vs p h) k)))
+    (sym (turn_more n k (arrangement_of w.state vs) (arrangement_of u.state vs) j named p z d (λ q. omega (arith, q, arrangement_length w.state vs))
+    (arranged w u vs (push (arrangement_of w.state vs) p) M (inside_push w.state vs p h) e)))
 
 -- no push is left
 pub turn_over : (w : World) (vs : List ℕ) (a : Arrangement) (j named n : ℕ) → n ≡ 0 → w ≡ made_all w (across vs (turn_for n a j named))
@@ -186,57 +191,31 @@ turn_rest w s vs j named n h e =
 
 -- ---- where the push begins, as the code finds it
 
-module _ (s : State) (vs : List ℕ) (j named : ℕ) (h : j < length vs) where
+module _ (s : State) (vs : List ℕ) (j named : ℕ) where
   -- at the place itself, where it is taken
-  pub begins_taken : (x : ℕ) → x ≡ robot_on s (get_or vs j 0) → x ≢ 255 → j ≡ turn_at (arrangement_of s vs) j named
+  pub begins_taken : (x : ℕ) → cell_of x ≡ cell (arrangement_of s vs) j → x ≢ 255 → j ≡ turn_at (arrangement_of s vs) j named
   begins_taken x e n =
-      let t = turn_taken (arrangement_of s vs) j named x (arrangement_at s vs j h ∙ ap cell_of (sym e) ∙ cell_of_lem n) in
+      let t = turn_taken (arrangement_of s vs) j named x (sym e ∙ cell_of_lem n) in
       sym (turn_shut (arrangement_of s vs) j named t.0 ∙ t.1)
 
   -- nowhere, where it is empty and the named robot behind it
-  pub begins_nowhere : (x b : ℕ) → x ≡ robot_on s (get_or vs j 0) → x ≡ 255 → b ≡ ring_behind (arrangement_of s vs) j → b ≡ named
+  pub begins_nowhere : (x b : ℕ) → cell_of x ≡ cell (arrangement_of s vs) j → x ≡ 255 → b ≡ ring_behind (arrangement_of s vs) j → b ≡ named
       → length vs ≡ turn_at (arrangement_of s vs) j named
   begins_nowhere x b e n d q =
-      let t = turn_free (arrangement_of s vs) j named (arrangement_at s vs j h ∙ ap cell_of (sym e) ∙ cell_none n) in
+      let t = turn_free (arrangement_of s vs) j named (sym e ∙ cell_none n) in
       sym (turn_open (arrangement_of s vs) j named (t.0 ∙ eq-eqb _ _ (sym d ∙ q)) ∙ arrangement_length s vs)
 
   -- at the robot behind, where it is another one
-  pub begins_behind : (x b : ℕ) → x ≡ robot_on s (get_or vs j 0) → x ≡ 255 → b ≡ ring_behind (arrangement_of s vs) j → b ≢ named
+  pub begins_behind : (x b : ℕ) → cell_of x ≡ cell (arrangement_of s vs) j → x ≡ 255 → b ≡ ring_behind (arrangement_of s vs) j → b ≢ named
       → seek (suc b) (arrangement_of s vs) ≡ turn_at (arrangement_of s vs) j named
   begins_behind x b e n d q =
-      let t = turn_free (arrangement_of s vs) j named (arrangement_at s vs j h ∙ ap cell_of (sym e) ∙ cell_none n) in
+      let t = turn_free (arrangement_of s vs) j named (sym e ∙ cell_none n) in
       ap (λ (y : ℕ). seek (suc y) (arrangement_of s vs)) d
       ∙ sym (turn_shut (arrangement_of s vs) j named (t.0 ∙ ne_eqb _ _ (λ z. q (d ∙ z))) ∙ t.1)
-
-  -- a place where a push begins is one of the ring
-  pub begins_inside : (p : ℕ) → p ≡ turn_at (arrangement_of s vs) j named → p ≢ length vs → p < length vs
-  begins_inside p e n = go (entry_open (arrangement_of s vs) j named) refl
-    where
-      inside : j < length (arrangement_of s vs)
-      inside = omega (arith, arrangement_length s vs)
-
-      free : (c : ℕ) → cell (arrangement_of s vs) j ≡ c → entry_open (arrangement_of s vs) j named ≡ false → p < length vs
-      free zero z d = behind (ℕ_discrete (ring_behind (arrangement_of s vs) j) 255)
-        where
-          at : p ≡ seek (suc (ring_behind (arrangement_of s vs) j)) (arrangement_of s vs)
-          at = e ∙ turn_shut (arrangement_of s vs) j named d ∙ (turn_free (arrangement_of s vs) j named z).1
-
-          behind : Dec (ring_behind (arrangement_of s vs) j ≡ 255) → p < length vs
-          behind (yes q) = absurd (n (at ∙ sym (seek_nobody s vs (ring_behind (arrangement_of s vs) j) q)))
-          behind (no q) = omega (arith, at, behind_stands (arrangement_of s vs) j inside q, arrangement_length s vs)
-      free (suc r) z d = omega (arith, e ∙ turn_shut (arrangement_of s vs) j named d ∙ (turn_taken (arrangement_of s vs) j named r z).1)
-
-      go : (b : Bool) → entry_open (arrangement_of s vs) j named ≡ b → p < length vs
-      go true d = absurd (n (e ∙ turn_open (arrangement_of s vs) j named d ∙ arrangement_length s vs))
-      go false d = free (cell (arrangement_of s vs) j) refl d
 
 -- ---- entering
 
 -- size * size pushes at the most
-pub turns_enter : (a : Arrangement) (j named m : ℕ) → m ≡ length a → turn_for (m * m) a j named ≡ ring_enter a j named
+pub turns_enter : (a : Arrangement) (j named n : ℕ) → n ≡ length a * length a → turn_for n a j named ≡ ring_enter a j named
 unfolding ring_enter
-turns_enter a j named m e = rw e
-
--- as many fit a count
-pub turns_fit : (m : ℕ) → m ≤ 128 → m * m ≤ 128 * 128
-turns_fit m h = mul-le-mul h h
+turns_enter a j named n e = rw e

@@ -1,6 +1,6 @@
 -- Leaving a clique: one law for each way through the code.
 use Rattle.std.specs.Prelude.{◌≡◌, ◌≢◌, true, false, ℕ, suc, ◌-◌, List, [], ◌∷◌, ◌++◌, length, eqb, ltb}
-use Rattle.std.proofs.Common.{ap, sym, ◌∙◌, arith, eq-eqb, ne_eqb}
+use Rattle.std.proofs.Common.{sym, ◌∙◌, arith, eq-eqb, ne_eqb}
 use Rattle.spec.specs.Arrangement.{Arrangement, Move, mv, seek, cell, full}
 use Rattle.spec.specs.Clique.{make_room, clique_can_leave, clique_leave}
 use Rattle.spec.specs.State.{cell_of, across, across_move}
@@ -12,12 +12,6 @@ use Rattle.cells.specs.Reading.{member_seek}
 pub made_single : (w u : World) (vs : List ℕ) (m : Move) (ms : List Move) → u ≡ made w (across_move vs m) → ms ≡ m ∷ [] → u ≡ made_all w (across vs ms)
 unfolding made_all across
 made_single w u vs m ms e d = rw (d, e)
-
--- two moves, one after the other
-pub made_pair : (w u : World) (vs : List ℕ) (m n : Move) (ms : List Move) → u ≡ made (made w (across_move vs m)) (across_move vs n) → ms ≡ m ∷ n ∷ []
-    → u ≡ made_all w (across vs ms)
-unfolding made_all across
-made_pair w u vs m n ms e d = rw (d, e)
 
 -- nobody stands there
 pub room_none : (a : Arrangement) (j x : ℕ) → cell_of x ≡ cell a j → x ≡ 255 → make_room a j ≡ []
@@ -39,19 +33,9 @@ unfolding clique_leave
 leave_stays a r j e = rw (← e, clique_leave)
 
 -- room is made, then the leaver goes there
-leave_goes : (a : Arrangement) (r j : ℕ) → false ≡ eqb (cell a j) (suc r) → clique_leave a r j ≡ make_room a j ++ (mv r (seek (suc r) a) j ∷ [])
+pub leave_goes : (a : Arrangement) (r j : ℕ) → false ≡ eqb (cell a j) (suc r) → clique_leave a r j ≡ make_room a j ++ (mv r (seek (suc r) a) j ∷ [])
 unfolding clique_leave
 leave_goes a r j e = rw (← e, clique_leave)
-
--- nobody stands there: the leaver goes
-pub leave_alone : (a : Arrangement) (r j x : ℕ) → false ≡ eqb (cell a j) (suc r) → cell_of x ≡ cell a j → x ≡ 255
-    → clique_leave a r j ≡ mv r (seek (suc r) a) j ∷ []
-leave_alone a r j x e d n = leave_goes a r j e ∙ ap (λ (ms : List Move). ms ++ (mv r (seek (suc r) a) j ∷ [])) (room_none a j x d n)
-
--- the sitter goes to the earliest empty place, then the leaver goes
-pub leave_both : (a : Arrangement) (r j x : ℕ) → false ≡ eqb (cell a j) (suc r) → cell_of x ≡ cell a j → x ≢ 255
-    → clique_leave a r j ≡ mv x j (seek 0 a) ∷ mv r (seek (suc r) a) j ∷ []
-leave_both a r j x e d n = leave_goes a r j e ∙ ap (λ (ms : List Move). ms ++ (mv r (seek (suc r) a) j ∷ [])) (room_made a j x d n)
 
 -- in a full clique the leaver has to stand there
 pub can_leave_full : (a : Arrangement) (r j : ℕ) → true ≡ full a → eqb (cell a j) (suc r) ≡ clique_can_leave a r j

@@ -35,9 +35,9 @@ pub fn payload_word(file: &[u8], off: usize) -> usize
     ensures { (result ≡ word_at file.now off) × (result < 65536) }
 {
     if off < file.len() {
-        let high = payload_byte(file, off);
-        let low = payload_byte(file, off + 1);
-        usize::from(u16::from_be_bytes([high, low]))
+        let high = usize::from(payload_byte(file, off));
+        let low = usize::from(payload_byte(file, off + 1));
+        high * 256 + low
     } else {
         0
     }
@@ -65,8 +65,7 @@ fn bytes_from<const N: usize>(file: &[u8], at: usize) -> [u8; N]
     ensures { (off : ℕ) → at ≡ place_of off → Copied file.now off result N }
 {
     let mut bytes = [0; N];
-    let whole = at % 512 + N <= 510 && at + N <= file.len();
-    if whole {
+    if at % 512 + N <= 510 && at + N <= file.len() {
         bytes.copy_from_slice(&file[at..at + N]);
     } else {
         let mut place = at;

@@ -1,18 +1,11 @@
-use native.Mathlib.Omega.{arith}
-use Prim.Native.Nat.{ℕ}
-use mathlib.Core.Path.{ap, sym, ◌∙◌}
-use mathlib.Core.List.{List}
+use Rattle.std.proofs.Common.{List, ℕ, ap, sym, ◌∙◌, inl, inr}
 use Rattle.adjacency.specs.Rows.{put_bit, join_out, join_out_2, join_is}
 use Rattle.adjacency.proofs.add_edge.Goals as goal
 
-pub returns-then-a-ge128 : goal.returns-then-a-ge128
-returns-then-a-ge128 c = join_out _ _ _ c.if-a-ge128.true
-
-pub returns-then-b-ge128 : goal.returns-then-b-ge128
-returns-then-b-ge128 c = join_out_2 _ _ _ c.if-a-ge128.false c.if-b-ge128.true
-
-pub returns : goal.returns
-returns c =
+pub returns-then-b-lt128 : goal.returns-then-b-lt128
+returns-then-b-lt128 c =
     let a = c.args in
-    c.put-2.ensures ∙ ap (λ (r : List (List ℕ)). put_bit r a.v.0 a.u.0) c.put.ensures
-    ∙ sym (join_is a.rows.now a.u.0 a.v.0 (omega arith) (omega arith))
+    c.put-then-b-lt128.ensures ∙ ap (λ (r : List (List ℕ)). put_bit r a.v.0 a.u.0) c.put.ensures ∙ sym (join_is a.rows.now a.u.0 a.v.0 c.if-a-lt128.true c.if-b-lt128.true)
+
+pub returns-else-a-lt128 : goal.returns-else-a-lt128
+returns-else-a-lt128 c = elim c.else-a-lt128.either [ inl h ↦ join_out_2 _ _ _ h.0 h.1 | inr h ↦ join_out _ _ _ h ]

@@ -1,25 +1,29 @@
-use native.Mathlib.Omega.{arith}
-use mathlib.Core.Path.{◌∙◌}
-use Rattle.kinds.specs.Kind.{kind_outside, kind_stack, kind_hall, kind_clique, kind_ring, kind_none}
+use Rattle.std.proofs.Common.{◌≡◌, Bool, List, ap, ◌∙◌, sym, arith, rules}
+use Rattle.numbering.specs.declared.ZoneKind.{ZoneKind}
+use Rattle.numbering.specs.declared.ZoneKind.TheVariants.{Stack}
+use Rattle.numbering.specs.Kind.{number_of, not_stack, number_high}
+use Rattle.kinds.specs.Marks.{apart_closed}
+use Rattle.kinds.specs.Tests.{shape_test, stack_not, stack_shaped}
+use Prim.Native.Nat.{ℕ}
+use Rattle.kinds.specs.Kind.{kind_outside, kind_stack, kind_shape}
+use Rattle.kinds.proofs.of_kind.Goals.{then-first-gt128-via-then-first-gt128, then-first-gt128-via-else-first-gt128+then-size-first}
 use Rattle.kinds.proofs.of_kind.Goals as goal
 
 pub returns-then-first-gt128 : goal.returns-then-first-gt128
-returns-then-first-gt128 c = kind_outside _ _ _ _ _ _ _ (omega arith)
+returns-then-first-gt128 c = kind_outside _ _ _ _ _ _ _ (elim c.then-first-gt128.branch [
+  | then-first-gt128-via-then-first-gt128 w ↦ omega (arith, w.if-first-gt128.true)
+  | then-first-gt128-via-else-first-gt128+then-size-first w ↦ omega (arith, w.if-first-gt128.false, w.if-size-first.true)
+])
 
-pub returns-then-size-first : goal.returns-then-size-first
-returns-then-size-first c = kind_outside _ _ _ _ _ _ _ (omega arith)
+-- the shape's test, by the number of a stack
+shaped : (kind : ZoneKind) (rows : List (List ℕ)) (vs : List ℕ) (b : Bool) → kind ≡ Stack → b ≡ shape_test rows vs (number_of kind) → shape_test rows vs 1 ≡ b
+shaped kind rows vs b e d = ap (shape_test rows vs) (sym (ap number_of e)) ∙ sym d
 
-pub returns-in-1 : goal.returns-in-1
-returns-in-1 c = c.stack_ok.ensures ∙ kind_stack _ _ _ _ _ _ _ (omega arith) c.in-1.is
+pub returns-then-shape_ok : goal.returns-then-shape_ok
+returns-then-shape_ok c = c.closed_ok.ensures ∙ apart_closed _ _ _ _ ∙ stack_shaped _ _ _ _ (shaped _ _ _ _ c.in-Stack.is c.shape_ok.ensures ∙ c.if-shape_ok.true) ∙ kind_stack _ _ _ _ _ _ _ (omega arith) (ap number_of c.in-Stack.is)
 
-pub returns-in-2 : goal.returns-in-2
-returns-in-2 c = c.shape_ok.ensures ∙ kind_hall _ _ _ _ _ _ _ (omega arith) c.in-2.is
-
-pub returns-in-3 : goal.returns-in-3
-returns-in-3 c = c.shape_ok-in-3.ensures ∙ kind_clique _ _ _ _ _ _ _ (omega arith) c.in-3.is
-
-pub returns-in-4 : goal.returns-in-4
-returns-in-4 c = c.shape_ok-in-4.ensures ∙ kind_ring _ _ _ _ _ _ _ (omega arith) c.in-4.is
+pub returns-else-shape_ok : goal.returns-else-shape_ok
+returns-else-shape_ok c = c.if-shape_ok.false ∙ stack_not _ _ _ _ (shaped _ _ _ _ c.in-Stack.is c.shape_ok.ensures ∙ c.if-shape_ok.false) ∙ kind_stack _ _ _ _ _ _ _ (omega arith) (ap number_of c.in-Stack.is)
 
 pub returns-in_default : goal.returns-in_default
-returns-in_default c = kind_none _ _ _ _ _ _ _ (omega arith) c.in_default.in_default-own.rest.0.0.0.1 c.in_default.in_default-own.rest.0.0.1 c.in_default.in_default-own.rest.0.1 c.in_default.in_default-own.rest.1
+returns-in_default c = c.shape_ok-in_default.ensures ∙ kind_shape _ _ _ _ _ _ _ (omega arith) (not_stack _ c.in_default.not-Stack) (number_high _)

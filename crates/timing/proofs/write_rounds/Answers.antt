@@ -20,7 +20,7 @@ overflow_add-last c =
 pub overflow_cast-round : goal.overflow_cast-round
 overflow_cast-round c =
     let k = c.loop-i.invariant.2.kept in
-    omega (arith, c.requires, c.later-round.ensures, entry_small _ _ _ _ k c.three_from-x.result.first (search rules), left_entry_small _ _ _ _ k c.three_from-x.result.third (search rules))
+    omega (arith, c.requires, c.max-round.ensures, entry_small _ _ _ _ k c.three_from-x.result.first (search rules), left_entry_small _ _ _ _ k c.three_from-x.result.third (search rules))
 
 pub put_word_at-requires : goal.put_word_at-requires
 put_word_at-requires c = omega (arith, c.loop-i.invariant.1, c.loop-i.invariant.2.within)
@@ -35,17 +35,17 @@ pub loop-i-preserved : goal.loop-i-preserved
 loop-i-preserved c =
     let o = c.loop-i in
     let x = c.three_from-x in
-    let e = three_bytes c.args.file.now o.i x.result (x.ensures (2 + o.i * 3) o.invariant.0) in
-    let w : 2 + o.i * 3 + 3 ≡ 2 + (o.i + 1) * 3 = omega arith in
-    let y : 2 + o.i * 2 + 2 ≡ 2 + (o.i + 1) * 2 = omega arith in (
-      rw w at (c.place_after-at.ensures (2 + o.i * 3) o.invariant.0),
-      rw y at (c.word_after-place.ensures (2 + o.i * 2) o.invariant.1 (omega arith)),
-      timing_more _ _ _ o.i _ _ _ o.last o.left o.out _ _ o.invariant.2 (search rules) e.0 e.1 e.2
+    let e = three_bytes c.args.file.now o._i x.result (x.ensures (2 + o._i * 3) o.invariant.0) in
+    let w : 2 + o._i * 3 + 3 ≡ 2 + (o._i + 1) * 3 = omega arith in
+    let y : 2 + o._i * 2 + 2 ≡ 2 + (o._i + 1) * 2 = omega arith in (
+      rw w at (c.place_after-at.ensures (2 + o._i * 3) o.invariant.0),
+      rw y at (c.word_after-place.ensures (2 + o._i * 2) o.invariant.1 (omega arith)),
+      timing_more _ _ _ o._i _ _ _ o.last o.left o.out _ _ o.invariant.2 (search rules) e.0 e.1 e.2
           (search rules)
           (search rules)
           (search rules)
-          c.later-round.ensures
-          (c.put_word_at.ensures (2 + o.i * 2) o.invariant.1 (omega arith)),
+          c.max-round.ensures
+          (c.put_word_at.ensures (2 + o._i * 2) o.invariant.1 (omega arith)),
     )
 
 pub returns : goal.returns

@@ -24,7 +24,7 @@ has_open-requires c =
     (part_length a.cells.now o.i (omega (arith, c.requires)), part_length a.goal.now o.i (omega (arith, c.requires)))
 
 pub returns-then-has_open : goal.returns-then-has_open
-returns-then-has_open c = c.loop-i.invariant.1
+returns-then-has_open c = c.loop-i.invariant
 
 pub loop-i-smaller : goal.loop-i-smaller
 loop-i-smaller c = omega arith
@@ -36,4 +36,4 @@ loop-i-preserved c =
     (omega arith, open_sixteen a.cells.now a.goal.now o.i a.n (omega arith) c.requires.1 c.requires.2 (c.has_open.ensures c.if-has_open.false) ∙ o.invariant.1)
 
 pub returns : goal.returns
-returns c = c.loop-i.invariant.1
+returns c = c.loop-i.invariant

@@ -1,9 +1,6 @@
-use borrow.Author.Rules.{rules}
-use Rattle.circle.specs.Places.{next_first, next_listed}
+use Rattle.std.proofs.Common.{add-one, ap, ◌∙◌}
+use Rattle.spec.specs.Ring.{wrap}
 use Rattle.circle.proofs.places.next.Goals as goal
 
-pub returns-then-k-m : goal.returns-then-k-m
-returns-then-k-m c = next_first c.args.m c.args.i (search rules) c.if-k-m.true
-
 pub returns : goal.returns
-returns c = next_listed c.args.m c.args.i (search rules) c.if-k-m.false
+returns c = c.around.ensures ∙ ap (wrap c.args.m) (add-one c.args.i)

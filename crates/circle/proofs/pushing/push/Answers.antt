@@ -7,7 +7,7 @@ use Rattle.spec.specs.State.{robot_on, arrangement_of, across}
 use Rattle.motion.specs.World.{world, made, made_all, made_none}
 use Rattle.motion.specs.Across.{across_nil, across_move_lem}
 use Rattle.circle.specs.Places.{wrap_in}
-use Rattle.circle.specs.Runs.{run_at, run_robot, run_short, frame_size}
+use Rattle.circle.specs.Runs.{run_at, run_robot, robot_around, run_short, frame_size}
 use Rattle.circle.specs.Pushes.{push_from, push_none, push_all, push_step, unmoved_all, unmoved_behind}
 use Rattle.numbering.specs.declared.Robot.{Robot}
 use Rattle.circle.proofs.pushing.push.Goals as goal
@@ -40,7 +40,7 @@ loop-k-preserved c =
     let t : c.vertex_at-w.result.0 ≡ get_or z (wrap m (a.p + (k + 1))) 0 = c.vertex_at-w.ensures ∙ ap (λ (i : ℕ). get_or z i 0) c.around-in-loop-k.ensures in
     let e : c.if-last.r.0 ≡ robot_on s (get_or z (wrap m (a.p + k)) 0) =
     elim c.if-last.branch [
-      | then-last w ↦ ap (λ (x : Robot). x.0) w.r-is ∙ c.robot_at-first.ensures ∙ ap (λ (i : ℕ). robot_on s (get_or z i 0)) (sym (wrap_in m a.p h) ∙ ap (λ (i : ℕ). wrap m (a.p + i)) (sym w.if-last.true))
+      | then-last w ↦ ap (λ (x : Robot). x.0) w.r-is ∙ robot_around s z a.p h k a.p c.robot_at-first.result.0 (omega arith) (sym (wrap_in m a.p h) ∙ ap (λ (i : ℕ). wrap m (a.p + i)) (sym w.if-last.true)) c.robot_at-first.ensures
       | else-last w ↦ ap (λ (x : Robot). x.0) w.r-is ∙ w.robot_on-r.ensures ∙ ap (robot_on o.state) v ∙ o.invariant.before.stays k (omega (arith, w.if-last.false)) (omega arith)
     ] in
     record {

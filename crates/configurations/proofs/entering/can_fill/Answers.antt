@@ -13,7 +13,7 @@ pub returns-then-behind-ne255 : goal.returns-then-behind-ne255
 returns-then-behind-ne255 c =
     λ len h g.
     let a = c.args in
-    clique_named (take a.n a.part.now) a.r a.j (held_part a.file.now len a.from a.size) a.size a.behind c.if-behind-ne255.true
+    clique_named (take a.n a.part.now) a.r.0 a.j (held_part a.file.now len a.from a.size) a.size a.behind c.if-behind-ne255.true
 
 pub slice_bounds-list-end : goal.slice_bounds-list-end
 slice_bounds-list-end c = c.requires.2
@@ -34,5 +34,5 @@ returns c =
     let l = take a.n a.part.now in
     let q : length l ≡ a.n = length-take-le a.n a.part.now (omega (arith, c.requires)) in
     let z : length {A = ℕ} (take a.size (replicate 128 0)) ≡ a.size = cells_length a.size c.requires.2 in
-    c.list_met_in.ensures len h (omega (arith, z)) ∙ ap (λ (x : ℕ). list_met l a.r a.j (held_part a.file.now len a.from x)) z
-    ∙ clique_fills l a.r a.j (held_part a.file.now len a.from a.size) a.size a.behind c.if-behind-ne255.false (omega (arith, q, c.requires.0))
+    c.list_met_in.ensures len h (omega (arith, z)) ∙ ap (λ (x : ℕ). list_met l a.r.0 a.j (held_part a.file.now len a.from x)) z
+    ∙ clique_fills l a.r.0 a.j (held_part a.file.now len a.from a.size) a.size a.behind c.if-behind-ne255.false (omega (arith, q, c.requires.0))

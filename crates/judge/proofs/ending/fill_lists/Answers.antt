@@ -12,10 +12,10 @@ loop-z-preserved c =
     let l = c.loop-z in
     let w = c.fill_zone.ensures in (
       w.change.long ∙ l.invariant.0,
-      ap length w.count ∙ length-set l.counts l.z _ ∙ l.invariant.1,
+      ap length w.count ∙ length-set l.lists.counts l.z _ ∙ l.invariant.1,
       λ m n k kind zone place rows d e.
           let t : l.z < zone_count m = rw e c.loop-z-test.true in
-          filled_more m n k kind a.first.now a.size.now a.listed.now zone place rows d _ l.counts l.cells _ _ l.z l.invariant.0 l.invariant.1 t (l.invariant.2 m n k kind zone place rows d e) w,
+          filled_more m n k kind a.first.now a.size.now a.listed.now zone place rows d _ l.lists.counts l.lists.cells _ _ l.z l.invariant.0 l.invariant.1 t (l.invariant.2 m n k kind zone place rows d e) w,
     )
 
 pub returns : goal.returns
@@ -24,5 +24,5 @@ returns c =
     let l = c.loop-z in (
       l.invariant.0,
       l.invariant.1,
-      λ m n k kind zone place rows d e h. filled_all m a.first.now l.counts l.cells (state_of a.s) l.z (rw e c.loop-z-test.false) (filled_by m a.first.now l.counts l.cells a.s _ l.z c.robots_of.ensures (l.invariant.2 m n k kind zone place rows d e)),
+      λ m n k kind zone place rows d e h. filled_all m a.first.now l.lists.counts l.lists.cells (state_of a.s) l.z (rw e c.loop-z-test.false) (filled_by m a.first.now l.lists.counts l.lists.cells a.s _ l.z c.robots_of.ensures (l.invariant.2 m n k kind zone place rows d e)),
     )

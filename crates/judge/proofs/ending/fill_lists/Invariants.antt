@@ -11,5 +11,5 @@ use Rattle.judge.proofs.ending.fill_lists.Given as goal
 
 abbrev pub invariant-loop-z : goal.invariant-loop-z
 invariant-loop-z l =
-    (length l.cells ≡ length l.listed) × (length l.counts ≡ 64)
-    × ((m : Map) (n k : ℕ) (kind zone place : List ℕ) (rows : List (List ℕ)) → Given m n k kind l.first l.size l.listed zone place rows → zone_count m ≡ l.zones → Filled m l.first l.counts l.cells (on_vertices l.on) l.z)
+    (length l.lists.cells ≡ length l.listed) × (length l.lists.counts ≡ 64)
+    × ((m : Map) (n k : ℕ) (kind zone place : List ℕ) (rows : List (List ℕ)) → Given m n k kind l.first l.size l.listed zone place rows → zone_count m ≡ l.zones → Filled m l.first l.lists.counts l.lists.cells (on_vertices l.on) l.z)

@@ -1,5 +1,5 @@
 use borrow.Author.Rules.{rules}
-use mathlib.Core.Path.{sym}
+use mathlib.Core.Path.{◌≡◌, sym}
 use Prim.Native.Nat.{◌≤◌}
 use lib.ListN.{length}
 use lib.Seq.{length-take-le}
@@ -28,10 +28,11 @@ store-requires c =
     let l = c.line_up-n in
     let x : l.result ≤ 128 = lined_small a.first.now a.size.now a.listed.now a.z c.requires.0 (on_vertices a.on.now) l.result l.new.line l.new.places l.ensures in
     let y : l.result ≤ length l.new.line = search rules in
-    lined_fits a.first.now a.size.now a.listed.now a.z c.requires.0 (on_vertices a.on.now) l.result l.new.line l.new.places l.ensures y a.cells.now c.requires.1
+    let row : length a.lists.now.cells ≡ 128 = search rules in
+    lined_fits a.first.now a.size.now a.listed.now a.z c.requires.0 (on_vertices a.on.now) l.result l.new.line l.new.places l.ensures y a.lists.now.cells c.requires.1 _ row
 
-pub overflow_cast-counts : goal.overflow_cast-counts
-overflow_cast-counts c =
+pub overflow_cast-lists : goal.overflow_cast-lists
+overflow_cast-lists c =
     let a = c.args in
     let l = c.line_up-n in
     let x : l.result ≤ 128 = lined_small a.first.now a.size.now a.listed.now a.z c.requires.0 (on_vertices a.on.now) l.result l.new.line l.new.places l.ensures in
@@ -43,4 +44,5 @@ returns c =
     let l = c.line_up-n in
     let x : l.result ≤ 128 = lined_small a.first.now a.size.now a.listed.now a.z c.requires.0 (on_vertices a.on.now) l.result l.new.line l.new.places l.ensures in
     let y : l.result ≤ length l.new.line = search rules in
-    filled_zone a.first.now a.size.now a.listed.now a.z c.requires.0 (on_vertices a.on.now) l.result l.new.line l.new.places l.ensures y a.cells.now c.requires.1 a.counts.now c.store.new.part c.store.ensures
+    let row : length a.lists.now.cells ≡ 128 = search rules in
+    filled_zone a.first.now a.size.now a.listed.now a.z c.requires.0 (on_vertices a.on.now) l.result l.new.line l.new.places l.ensures y a.lists.now.cells c.requires.1 _ row a.lists.now.counts c.store.new.part c.store.ensures

@@ -1,3 +1,4 @@
+use borrow.Author.Rules.{rules}
 use mathlib.Core.List.{List}
 use mathlib.Core.Path.{◌≡◌, ap, sym, ◌∙◌}
 use Prim.Native.Nat.{ℕ, suc, ◌+◌}
@@ -11,8 +12,7 @@ use Rattle.orders.specs.Lengths.{entered_length}
 use Rattle.walking.specs.Given.{kind_at}
 use Rattle.walking.specs.Held.{held_part}
 use Rattle.configurations.specs.Entering.{entry_on}
-use Rattle.testing.specs.Held.{changed_rest}
-use Rattle.rosters.specs.Lists.{rest_is}
+use Rattle.testing.specs.Held.{changed_rest, rest_of}
 use Rattle.testing.specs.Steps.{extra_all}
 use Rattle.judge.proofs.walk.put_in.Goals as goal
 
@@ -21,16 +21,17 @@ returns c =
     λ behind w.
     let a = c.args in
     let z : ℕ = get_or a.zone.now a.v 0 in
-    let n : ℕ = get_or a.counts.now z 0 in
+    let row : length a.lists.now.cells ≡ 128 = search rules in
+    let n : ℕ = get_or a.lists.now.counts z 0 in
     let m : ℕ = get_or a.size.now z 0 in
-    let l : List ℕ = take n (drop (get_or a.first.now z 0) a.cells.now) in
+    let l : List ℕ = take n (drop (get_or a.first.now z 0) a.lists.now.cells) in
     let f : List ℕ = held_part a.file.now (a.from + a.e) a.from a.e in
-    let q : length l ≡ n = length-take-le n (drop (get_or a.first.now z 0) a.cells.now) (omega (arith, length-drop (get_or a.first.now z 0) a.cells.now, c.requires.puts_in.at.here.room, c.requires.puts_in.at.here.few)) in
+    let q : length l ≡ n = length-take-le n (drop (get_or a.first.now z 0) a.lists.now.cells) (omega (arith, length-drop (get_or a.first.now z 0) a.lists.now.cells, c.requires.puts_in.at.here.room, c.requires.puts_in.at.here.few)) in
     let h : length f ≡ a.e = length-take-le a.e (drop a.from (take (a.from + a.e) (payload a.file.now))) (omega (arith, length-drop a.from (take (a.from + a.e) (payload a.file.now)), held_length a.file.now (a.from + a.e) c.requires.e_in_bounds)) in
     let s : length (entered (kind_at a.kind.now a.zone.now a.v) m l a.r (get_or a.place.now a.v 0) behind f) ≡ suc n =
     entered_length (kind_at a.kind.now a.zone.now a.v) m l a.r (get_or a.place.now a.v 0) behind f (λ k x. h ∙ extra_all (get_or a.kind.now z 0) m n a.e c.requires.puts_in.extra k (ap suc (sym q) ∙ x)) ∙ ap suc q in
     record {
-      change = changed_rest a.cells.now (get_or a.first.now z 0) m (λ (x : List ℕ). entered (kind_at a.kind.now a.zone.now a.v) m (take n x) a.r (get_or a.place.now a.v 0) behind f) _ (omega (arith, c.requires.puts_in.at.here.room))
-          (c.enter_in.ensures behind (λ y. w y ∙ ap (λ (x : List ℕ). entry_on (kind_at a.kind.now a.zone.now a.v) behind (take n x)) (sym (rest_is (get_or a.first.now z 0) a.cells.now))));
-      count = ap (λ (x : ℕ). set a.counts.now z x) (add-one n ∙ sym s);
+      change = changed_rest a.lists.now.cells (get_or a.first.now z 0) m _ (λ (x : List ℕ). entered (kind_at a.kind.now a.zone.now a.v) m (take n x) a.r (get_or a.place.now a.v 0) behind f) _ row (omega (arith, c.requires.puts_in.at.here.room, row))
+          (c.enter_in.ensures behind (λ y. w y ∙ ap (λ (x : List ℕ). entry_on (kind_at a.kind.now a.zone.now a.v) behind (take n x)) (sym (rest_of (get_or a.first.now z 0) 128 a.lists.now.cells row))));
+      count = ap (λ (x : ℕ). set a.lists.now.counts z x) (add-one n ∙ sym s);
     }

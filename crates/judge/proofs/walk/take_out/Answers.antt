@@ -1,3 +1,4 @@
+use borrow.Author.Rules.{rules}
 use mathlib.Core.List.{List}
 use mathlib.Core.Path.{◌≡◌, ap, sym, ◌∙◌}
 use Prim.Native.Nat.{ℕ, ◌-◌}
@@ -14,11 +15,12 @@ pub returns : goal.returns
 returns c =
     let a = c.args in
     let z : ℕ = get_or a.zone.now a.u 0 in
-    let n : ℕ = get_or a.counts.now z 0 in
-    let l : List ℕ = take n (drop (get_or a.first.now z 0) a.cells.now) in
-    let q : length l ≡ n = length-take-le n (drop (get_or a.first.now z 0) a.cells.now) (omega (arith, length-drop (get_or a.first.now z 0) a.cells.now, c.requires.at.here.room, c.requires.at.here.few)) in
+    let row : length a.lists.now.cells ≡ 128 = search rules in
+    let n : ℕ = get_or a.lists.now.counts z 0 in
+    let l : List ℕ = take n (drop (get_or a.first.now z 0) a.lists.now.cells) in
+    let q : length l ≡ n = length-take-le n (drop (get_or a.first.now z 0) a.lists.now.cells) (omega (arith, length-drop (get_or a.first.now z 0) a.lists.now.cells, c.requires.at.here.room, c.requires.at.here.few)) in
     let s : length (without a.t l) ≡ n - 1 = without_length a.t l (omega (arith, q, c.requires.in_list)) ∙ ap (λ (x : ℕ). x - 1) q in
     record {
-      change = changed_rest a.cells.now (get_or a.first.now z 0) (get_or a.size.now z 0) (λ (x : List ℕ). without a.t (take n x)) _ (omega (arith, c.requires.at.here.room)) (wider _ c.requires.at.here.few c.remove.ensures);
-      count = ap (λ (x : ℕ). set a.counts.now z x) (sym s);
+      change = changed_rest a.lists.now.cells (get_or a.first.now z 0) (get_or a.size.now z 0) _ (λ (x : List ℕ). without a.t (take n x)) _ row (omega (arith, c.requires.at.here.room, row)) (wider _ c.requires.at.here.few c.remove.ensures);
+      count = ap (λ (x : ℕ). set a.lists.now.counts z x) (sym s);
     }

@@ -1,10 +1,7 @@
-use Prim.Native.Nat.{◌+◌, ◌-◌, ◌≤◌}
-use lib.ListN.{length, take}
+use Prim.Native.Nat.{◌+◌}
+use lib.ListN.{take}
 use Rattle.lines.specs.Text.{Put}
 use Rattle.lines.proofs.fields.put_word.Given as goal
 
 abbrev pub invariant-loop-i : goal.invariant-loop-i
-invariant-loop-i l = (l.i ≤ length l.word) × Put l.initial.text l.at (take l.i l.word) l.text (l.at + l.i)
-
-abbrev pub decreases-loop-i : goal.decreases-loop-i
-decreases-loop-i l = length l.word - l.i
+invariant-loop-i l = Put l.initial.text l.at (take l.i l.word) l.text (l.at + l.i)

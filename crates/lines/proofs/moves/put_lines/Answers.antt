@@ -8,12 +8,6 @@ loop-i-init c = lined_start _ _ _ _ _
 pub put_line-next-requires : goal.put_line-next-requires
 put_line-next-requires c = let l = c.loop-i.invariant.most in let w = c.loop-i.invariant.within in (omega arith, omega arith)
 
-pub overflow_add-i : goal.overflow_add-i
-overflow_add-i c = omega arith
-
-pub loop-i-smaller : goal.loop-i-smaller
-loop-i-smaller c = omega arith
-
 pub loop-i-preserved : goal.loop-i-preserved
 loop-i-preserved c = lined_more _ _ _ _ _ _ _ _ c.loop-i.invariant c.loop-i-test.true _ _ c.put_line-next.ensures.put c.put_line-next.ensures.upper_bound
 

@@ -1,41 +1,18 @@
-use native.Mathlib.Omega.{arith}
-use Rattle.reaching.specs.Reach.{walk_start, walk_short, walk_end, walk_differ, walk_on}
+use Rattle.std.proofs.Common.{◌≡◌, refl, ap, rules, tests}
+use Rattle.std.proofs.lemmas.Iterator.Consumers.{YieldsList-from_first}
+use Rattle.spec.specs.Hall.{hall_can_end}
+use Rattle.motion.specs.States.{robot_no}
+use Rattle.reaching.specs.declared.row.Row.{Row}
+use Rattle.reaching.specs.Row.{row_of, robots_left, same_from_eq}
 use Rattle.reaching.proofs.reach.can_end.Goals as goal
 
-pub loop-i-init : goal.loop-i-init
-loop-i-init c =
-    let a = c.args in
-    walk_start a.state.now a.goals.now a.zone.now _ _ c.next_robot-i.ensures c.next_robot-k.ensures
-
-pub returns-then-zone-k : goal.returns-then-zone-k
-returns-then-zone-k c =
-    let a = c.args in
-    let o = c.loop-i in
-    walk_short a.state.now a.goals.now a.zone.now o.i o.k o.invariant c.loop-i-test.true c.if-zone-k.true
-
-pub returns-then-r-g : goal.returns-then-r-g
-returns-then-r-g c =
-    let a = c.args in
-    let o = c.loop-i in
-    let r = c.robot_on-r in
-    let g = c.robot_on-g in
-    walk_differ a.state.now a.goals.now a.zone.now o.i o.k o.invariant c.loop-i-test.true c.if-zone-k.false
-    r.result.0 g.result.0 r.ensures g.ensures c.if-r-g.true
-
-pub loop-i-smaller : goal.loop-i-smaller
-loop-i-smaller c = let n = c.next_robot-i-in-loop-i.ensures.past in omega arith
-
-pub loop-i-preserved : goal.loop-i-preserved
-loop-i-preserved c =
-    let a = c.args in
-    let o = c.loop-i in
-    let r = c.robot_on-r in
-    let g = c.robot_on-g in
-    walk_on a.state.now a.goals.now a.zone.now o.i o.k o.invariant c.loop-i-test.true c.if-zone-k.false
-    r.result.0 g.result.0 r.ensures g.ensures _ _ c.if-r-g.false c.next_robot-i-in-loop-i.ensures c.next_robot-k-in-loop-i.ensures
-
 pub returns : goal.returns
+unfolding hall_can_end
 returns c =
-    let a = c.args in
-    let o = c.loop-i in
-    walk_end a.state.now a.goals.now a.zone.now o.i o.k o.invariant c.loop-i-test.false
+    let s = c.args.state.now in
+    let g = c.args.goals.now in
+    let z = c.args.zone.now in
+    same_from_eq (λ (a : Row) (b : Row). b ≡ a) _ c.eq.result c.eq.ensures.ran
+    (YieldsList-from_first robot_no robots_left (row_of s z) refl)
+    (λ it b. YieldsList-from_first robot_no robots_left (row_of g z) (ap robots_left b))
+    (λ x y. search (rules, tests))

@@ -1,58 +1,53 @@
-use borrow.Author.Rules.{rules}
+use Rattle.std.proofs.Common.{◌≡◌, map, ap, sym, arith}
+use Rattle.std.proofs.lemmas.List.{length-map, map-append}
+use Rattle.std.proofs.lemmas.Iterator.Consumers.{YieldsList-from_first, YieldsList-turn, YieldsList-end}
 use Rattle.spec.specs.State.{arrangement_of}
-use Rattle.reaching.specs.Reach.{count_none, order_robot, order_empty, order_end, count_lower, count_named, count_after, count_empty, count_all}
+use Rattle.theory.specs.Zones.Arrangements.{order_short}
+use Rattle.motion.specs.States.{robot_no}
+use Rattle.motion.specs.Across.{arrangement_length}
+use Rattle.reaching.specs.Row.{row_of, robots_left, counted_none, counted_before, counted_after}
 use Rattle.reaching.proofs.reach.count_robots.Goals as goal
+use Rattle.reaching.proofs.reach.count_robots.Goals.{then-lower-all+then-r-named, else-lower-all, else-lower-all-via-then-lower-all+else-r-named, else-lower-all-via-else-lower-all}
 
-pub loop-k-init : goal.loop-k-init
-loop-k-init c = (search rules, count_none _ _)
+pub loop-r-init : goal.loop-r-init
+loop-r-init c = (tt, tt, counted_none c.args.named)
 
-pub loop-k-preserved-then-named-r : goal.loop-k-preserved-then-named-r
-loop-k-preserved-then-named-r c =
-    let a = c.args in
-    let o = c.loop-k in
-    let g = arrangement_of a.state.now a.zone.now in
-    let r = c.robot_on-r in (
-      search rules,
-      count_lower g a.named o.k o.lower o.all o.invariant.1 r.result.0
-          (order_robot a.state.now a.zone.now o.k r.result.0 c.loop-k-test.true r.ensures c.if-r.true) c.if-lower-all.true c.if-named-r.true,
-    )
+pub overflow_add-lower : goal.overflow_add-lower
+overflow_add-lower c =
+    let o = c.loop-r in
+    let s = c.args.state.now in
+    let z = c.args.zone.now in
+    let t = YieldsList-turn (YieldsList-from_first robot_no robots_left (row_of s z) (ap robots_left c.into_iter-r-iterator.ensures.into_iter_gives)) o.yielded o.r-iterator o.yielded_by _ c.next.new.self c.in-Some.r c.in-Some.is c.next.ensures.steps in
+    omega (arith, t.0, o.invariant.2.count, length-map o.yielded robot_no, order_short (arrangement_of s z), arrangement_length s z)
 
-pub loop-k-preserved-else-named-r : goal.loop-k-preserved-else-named-r
-loop-k-preserved-else-named-r c =
-    let a = c.args in
-    let o = c.loop-k in
-    let g = arrangement_of a.state.now a.zone.now in
-    let r = c.robot_on-r in (
-      search rules,
-      count_named g a.named o.k o.lower o.all o.invariant.1 r.result.0
-          (order_robot a.state.now a.zone.now o.k r.result.0 c.loop-k-test.true r.ensures c.if-r.true) c.if-lower-all.true c.if-named-r.false,
-    )
+pub overflow_add-all : goal.overflow_add-all
+overflow_add-all c =
+    let o = c.loop-r in
+    let s = c.args.state.now in
+    let z = c.args.zone.now in
+    let t = YieldsList-turn (YieldsList-from_first robot_no robots_left (row_of s z) (ap robots_left c.into_iter-r-iterator.ensures.into_iter_gives)) o.yielded o.r-iterator o.yielded_by _ c.next.new.self c.in-Some.r c.in-Some.is c.next.ensures.steps in
+    omega (arith, t.0, o.invariant.2.count, length-map o.yielded robot_no, order_short (arrangement_of s z), arrangement_length s z)
 
-pub loop-k-preserved-else-lower-all : goal.loop-k-preserved-else-lower-all
-loop-k-preserved-else-lower-all c =
-    let a = c.args in
-    let o = c.loop-k in
-    let g = arrangement_of a.state.now a.zone.now in
-    let r = c.robot_on-r in (
-      search rules,
-      count_after g a.named o.k o.lower o.all o.invariant.1 r.result.0
-          (order_robot a.state.now a.zone.now o.k r.result.0 c.loop-k-test.true r.ensures c.if-r.true) c.if-lower-all.false,
-    )
-
-pub loop-k-preserved : goal.loop-k-preserved
-loop-k-preserved c =
-    let a = c.args in
-    let o = c.loop-k in
-    let g = arrangement_of a.state.now a.zone.now in
-    let r = c.robot_on-r in (
-      search rules,
-      count_empty g a.named o.k o.lower o.all o.invariant.1
-          (order_empty a.state.now a.zone.now o.k r.result.0 c.loop-k-test.true r.ensures c.if-r.false),
-    )
+pub loop-r-preserved : goal.loop-r-preserved
+loop-r-preserved c =
+    let o = c.loop-r in
+    let rs = map robot_no o.yielded in
+    elim c.if-lower-all.branch [
+      | then-lower-all+then-r-named w ↦
+          (tt, tt, rw (w.lower-is, map-append) (counted_before rs c.args.named c.in-Some.r.0 o.lower o.all o.invariant.2 w.if-lower-all.true w.if-r-named.true))
+      | else-lower-all w ↦
+          let met : o.lower ≡ o.all → c.in-Some.r.0 ≡ c.args.named =
+          elim w.else-lower-all.branch [
+            | else-lower-all-via-then-lower-all+else-r-named v ↦ λ e. v.if-r-named.false
+            | else-lower-all-via-else-lower-all v ↦ λ e. absurd (v.if-lower-all.false e)
+          ] in
+          (tt, tt, rw (w.lower-is, map-append) (counted_after rs c.args.named c.in-Some.r.0 o.lower o.all o.invariant.2 met))
+    ]
 
 pub returns : goal.returns
 returns c =
-    let a = c.args in
-    let o = c.loop-k in
-    count_all (arrangement_of a.state.now a.zone.now) a.named o.k o.lower o.all o.invariant.1
-    (order_end a.state.now a.zone.now o.k c.loop-k-test.false)
+    let o = c.loop-r in
+    let s = c.args.state.now in
+    let z = c.args.zone.now in
+    let e = YieldsList-end (YieldsList-from_first robot_no robots_left (row_of s z) (ap robots_left c.into_iter-r-iterator.ensures.into_iter_gives)) o.yielded o.r-iterator o.yielded_by _ c.next.new.self c.in-None.is c.next.ensures.steps in
+    rw (sym e.0) o.invariant.2

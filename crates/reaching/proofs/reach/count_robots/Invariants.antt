@@ -1,11 +1,9 @@
-use Prim.Native.Nat.{◌-◌, ◌≤◌}
-use lib.ListN.{length}
-use Rattle.spec.specs.State.{arrangement_of}
-use Rattle.reaching.specs.Reach.{Counting}
+use Rattle.std.proofs.Common.{map}
+use Rattle.motion.specs.States.{robot_no}
+use Rattle.reaching.specs.Row.{Counted}
 use Rattle.reaching.proofs.reach.count_robots.Given as goal
 
-abbrev pub invariant-loop-k : goal.invariant-loop-k
-invariant-loop-k l = (l.k ≤ length l.zone) × Counting (arrangement_of l.state l.zone) l.named l.k l.lower l.all
-
-abbrev pub decreases-loop-k : goal.decreases-loop-k
-decreases-loop-k l = length l.zone - l.k
+abbrev pub invariant-loop-r : goal.invariant-loop-r
+invariant-loop-r l =
+    (goal.iterator-loop-r).can_next l.r-iterator × (goal.iterator-loop-r).is_finite l.r-iterator
+    × Counted (map robot_no l.yielded) l.named l.lower l.all

@@ -1,9 +1,6 @@
 use borrow.Author.Rules.{rules}
 use Rattle.stepping.specs.Steps.{next_room, next_to, next_is, next_step, next_made, next_end}
 use Rattle.walking.specs.Walk.{walk_start, walk_end, walk_over}
-use Rattle.resolve.specs.Whole.{walked_whole, walked_part}
-use Rattle.walking.specs.Given.{kind_at, vertices_at}
-use Rattle.theory.specs.Zones.Crossing.{extra_of}
 use Rattle.motion.specs.World.{world}
 use Rattle.wire.specs.Payload.{payload, held_length}
 use lib.ListN.{take}
@@ -14,23 +11,23 @@ use Rattle.resolve.proofs.walk.walk.Goals as goal
 pub loop-i-init : goal.loop-i-init
 loop-i-init c =
     let a = c.args in
-    (refl, search rules, λ x. walk_start x.map x.given.accepted x.k x.given.few (take x.len (payload a.file.now)) a.count (world a.state.now 0 a.out.now) (omega (arith, held_length a.file.now x.len x.most, x.two)) x.consistent, refl, refl, c.payload_ahead-four.ensures.0)
+    (λ x. walk_start x.map x.given.accepted x.k x.given.few (take x.len (payload a.file.now)) a.count (world a.state.now 0 a.out.now) (omega (arith, held_length a.file.now x.len x.most, x.two)) x.consistent, c.payload_ahead-four.ensures.0)
 
 pub returns-then-over : goal.returns-then-over
 returns-then-over c =
     λ x.
     let a = c.args in
     let l = c.loop-i in
-    walked_part _ _ _ _ _ _ _ refl (walk_over x.map x.given.accepted x.k x.given.few (take x.len (payload a.file.now)) a.count (world a.state.now 0 a.out.now) l.i l.o (world l.state l.made l.out) (l.invariant.1 x) (search rules))
+    (l.made, walk_over x.map x.given.accepted x.k x.given.few (take x.len (payload a.file.now)) a.count (world a.state.now 0 a.out.now) l.i l.o (world l.state l.made l.out) (l.invariant.0 x) (search rules))
 
 pub list_length_at-e-requires : goal.list_length_at-e-requires
 list_length_at-e-requires c =
     let a = c.args in
     let x = c.requires.started in
     let l = c.loop-i in
-    let g = l.invariant.1 x in
+    let g = l.invariant.0 x in
     let h = c.loop-i-test.true in
-    let f = l.invariant.2 (next_room a.file.now a.count a.map.now.kind a.map.now.first a.map.now.size a.map.now.listed a.map.now.zone a.map.now.place (world a.state.now 0 a.out.now) x l.i l.o (world l.state l.made l.out) g h) in
+    let f = l.invariant.1 (next_room a.file.now a.count a.map.now.kind a.map.now.first a.map.now.size a.map.now.listed a.map.now.zone a.map.now.place (world a.state.now 0 a.out.now) x l.i l.o (world l.state l.made l.out) g h) in
     let y = next_to a.file.now a.count a.map.now.kind a.map.now.first a.map.now.size a.map.now.listed a.map.now.zone a.map.now.place (world a.state.now 0 a.out.now) x l.i l.o (world l.state l.made l.out) g h l.four f in
     (y.below, y.here)
 
@@ -39,11 +36,11 @@ overflow_add-next c =
     let a = c.args in
     let x = c.requires.started in
     let l = c.loop-i in
-    let g = l.invariant.1 x in
+    let g = l.invariant.0 x in
     let h = c.loop-i-test.true in
-    let f = l.invariant.2 (next_room a.file.now a.count a.map.now.kind a.map.now.first a.map.now.size a.map.now.listed a.map.now.zone a.map.now.place (world a.state.now 0 a.out.now) x l.i l.o (world l.state l.made l.out) g h) in
+    let f = l.invariant.1 (next_room a.file.now a.count a.map.now.kind a.map.now.first a.map.now.size a.map.now.listed a.map.now.zone a.map.now.place (world a.state.now 0 a.out.now) x l.i l.o (world l.state l.made l.out) g h) in
     let e = c.list_length_at-e.result in
-    let q = c.list_length_at-e.ensures  in
+    let q = c.list_length_at-e.ensures in
     omega (arith, next_end a.file.now a.count a.map.now.kind a.map.now.first a.map.now.size a.map.now.listed a.map.now.zone a.map.now.place (world a.state.now 0 a.out.now) x l.i l.o (world l.state l.made l.out) g h l.four f e q)
 
 pub overflow_add-next-in-loop-i : goal.overflow_add-next-in-loop-i
@@ -51,11 +48,11 @@ overflow_add-next-in-loop-i c =
     let a = c.args in
     let x = c.requires.started in
     let l = c.loop-i in
-    let g = l.invariant.1 x in
+    let g = l.invariant.0 x in
     let h = c.loop-i-test.true in
-    let f = l.invariant.2 (next_room a.file.now a.count a.map.now.kind a.map.now.first a.map.now.size a.map.now.listed a.map.now.zone a.map.now.place (world a.state.now 0 a.out.now) x l.i l.o (world l.state l.made l.out) g h) in
+    let f = l.invariant.1 (next_room a.file.now a.count a.map.now.kind a.map.now.first a.map.now.size a.map.now.listed a.map.now.zone a.map.now.place (world a.state.now 0 a.out.now) x l.i l.o (world l.state l.made l.out) g h) in
     let e = c.list_length_at-e.result in
-    let q = c.list_length_at-e.ensures  in
+    let q = c.list_length_at-e.ensures in
     omega (arith, next_end a.file.now a.count a.map.now.kind a.map.now.first a.map.now.size a.map.now.listed a.map.now.zone a.map.now.place (world a.state.now 0 a.out.now) x l.i l.o (world l.state l.made l.out) g h l.four f e q)
 
 pub payload_ahead-ahead-requires : goal.payload_ahead-ahead-requires
@@ -63,11 +60,11 @@ payload_ahead-ahead-requires c =
     let a = c.args in
     let x = c.requires.started in
     let l = c.loop-i in
-    let g = l.invariant.1 x in
+    let g = l.invariant.0 x in
     let h = c.loop-i-test.true in
-    let f = l.invariant.2 (next_room a.file.now a.count a.map.now.kind a.map.now.first a.map.now.size a.map.now.listed a.map.now.zone a.map.now.place (world a.state.now 0 a.out.now) x l.i l.o (world l.state l.made l.out) g h) in
+    let f = l.invariant.1 (next_room a.file.now a.count a.map.now.kind a.map.now.first a.map.now.size a.map.now.listed a.map.now.zone a.map.now.place (world a.state.now 0 a.out.now) x l.i l.o (world l.state l.made l.out) g h) in
     let e = c.list_length_at-e.result in
-    let q = c.list_length_at-e.ensures  in
+    let q = c.list_length_at-e.ensures in
     omega (arith, next_end a.file.now a.count a.map.now.kind a.map.now.first a.map.now.size a.map.now.listed a.map.now.zone a.map.now.place (world a.state.now 0 a.out.now) x l.i l.o (world l.state l.made l.out) g h l.four f e q)
 
 pub make_step-made-requires : goal.make_step-made-requires
@@ -75,37 +72,27 @@ make_step-made-requires c =
     let a = c.args in
     let x = c.requires.started in
     let l = c.loop-i in
-    let g = l.invariant.1 x in
+    let g = l.invariant.0 x in
     let h = c.loop-i-test.true in
-    let f = l.invariant.2 (next_room a.file.now a.count a.map.now.kind a.map.now.first a.map.now.size a.map.now.listed a.map.now.zone a.map.now.place (world a.state.now 0 a.out.now) x l.i l.o (world l.state l.made l.out) g h) in
+    let f = l.invariant.1 (next_room a.file.now a.count a.map.now.kind a.map.now.first a.map.now.size a.map.now.listed a.map.now.zone a.map.now.place (world a.state.now 0 a.out.now) x l.i l.o (world l.state l.made l.out) g h) in
     let e = c.list_length_at-e.result in
-    let q = c.list_length_at-e.ensures  in
+    let q = c.list_length_at-e.ensures in
     record { stepping = next_step a.file.now a.count a.map.now.kind a.map.now.first a.map.now.size a.map.now.listed a.map.now.zone a.map.now.place (world a.state.now 0 a.out.now) x l.i l.o (world l.state l.made l.out) g h l.four f e q; four_at = f }
-
-pub overflow_add-i : goal.overflow_add-i
-overflow_add-i c =
-    let h = c.loop-i-test.true in
-    let b = c.requires.count_bound in
-    search rules
 
 pub loop-i-preserved : goal.loop-i-preserved
 loop-i-preserved c =
     let a = c.args in
     let x = c.requires.started in
     let l = c.loop-i in
-    let g = l.invariant.1 x in
+    let g = l.invariant.0 x in
     let h = c.loop-i-test.true in
-    let f = l.invariant.2 (next_room a.file.now a.count a.map.now.kind a.map.now.first a.map.now.size a.map.now.listed a.map.now.zone a.map.now.place (world a.state.now 0 a.out.now) x l.i l.o (world l.state l.made l.out) g h) in
+    let f = l.invariant.1 (next_room a.file.now a.count a.map.now.kind a.map.now.first a.map.now.size a.map.now.listed a.map.now.zone a.map.now.place (world a.state.now 0 a.out.now) x l.i l.o (world l.state l.made l.out) g h) in
     let e = c.list_length_at-e.result in
-    let q = c.list_length_at-e.ensures  in (
-      search rules,
-      search rules,
+    let q = c.list_length_at-e.ensures in (
       λ x.
-          let g = l.invariant.1 x in
+          let g = l.invariant.0 x in
           next_made a.file.now a.count a.map.now.kind a.map.now.first a.map.now.size a.map.now.listed a.map.now.zone a.map.now.place (world a.state.now 0 a.out.now) x l.i l.o (world l.state l.made l.out) g h l.four f e q _
           (c.make_step-made.ensures x.map x.n x.k x.len x.rows x.given g.consistent x.most (next_is a.file.now a.count a.map.now.kind a.map.now.first a.map.now.size a.map.now.listed a.map.now.zone a.map.now.place (world a.state.now 0 a.out.now) x l.i l.o (world l.state l.made l.out) g h l.four f e q)),
-      search rules,
-      search rules,
       c.payload_ahead-ahead.ensures.0,
     )
 
@@ -114,4 +101,4 @@ returns c =
     λ x.
     let a = c.args in
     let l = c.loop-i in
-    walked_whole _ _ _ _ _ _ _ refl l.o (walk_end x.map x.given.accepted x.k x.given.few (take x.len (payload a.file.now)) a.count (world a.state.now 0 a.out.now) l.i l.o (world l.state l.made l.out) (l.invariant.1 x) (omega arith))
+    (l.o, walk_end x.map x.given.accepted x.k x.given.few (take x.len (payload a.file.now)) a.count (world a.state.now 0 a.out.now) l.i l.o (world l.state l.made l.out) (l.invariant.0 x) (omega arith))

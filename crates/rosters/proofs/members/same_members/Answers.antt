@@ -1,40 +1,25 @@
-use native.Mathlib.Omega.{arith}
-use Prim.Native.Nat.{ℕ}
-use mathlib.Core.Path.{ap, sym, ◌∙◌}
-use lib.ListN.{take}
-use lib.Seq.{length-take-le}
-use Rattle.orders.specs.Orders.{same_members}
-use Rattle.rosters.specs.Members.{members_other}
+use Rattle.std.proofs.Common.{ap₂, sym, ◌∙◌, eqb, arith}
+use Rattle.rosters.specs.Members.{all_is, members_other, members_not, members_same, small, words_same}
 use Rattle.rosters.proofs.members.same_members.Goals as goal
 
-pub returns-then-n-m : goal.returns-then-n-m
-returns-then-n-m c =
-    let a = c.args in
-    members_other (take a.n a.part.now) (take a.m a.other.now) a.n a.m (length-take-le a.n a.part.now c.requires.0) (length-take-le a.m a.other.now c.requires.1) c.if-n-m.true
-
-pub slice_bounds-highest-end : goal.slice_bounds-highest-end
-slice_bounds-highest-end c = sym (length-take-le c.args.n c.args.part.now c.requires.0)
-
-pub slice_bounds-highest-end-2 : goal.slice_bounds-highest-end-2
-slice_bounds-highest-end-2 c = sym (length-take-le c.args.n c.args.other.now (omega (arith, c.requires.1, c.if-n-m.false)))
-
-pub slice_bounds-same_marks-end : goal.slice_bounds-same_marks-end
-slice_bounds-same_marks-end c = sym (length-take-le c.args.n c.args.part.now c.requires.0)
-
-pub slice_bounds-same_marks-end-then-h-lt64 : goal.slice_bounds-same_marks-end-then-h-lt64
-slice_bounds-same_marks-end-then-h-lt64 c = sym (length-take-le c.args.n c.args.other.now (omega (arith, c.requires.1, c.if-n-m.false)))
-
-pub same_marks-requires : goal.same_marks-requires
-same_marks-requires c =
-    let a = c.args in
-    (λ j. omega (arith, c.highest-a.ensures j, c.larger-h.ensures.0, c.if-h-lt64.true), λ j. omega (arith, c.highest-b.ensures j, c.larger-h.ensures.1, c.if-h-lt64.true), length-take-le a.n a.part.now c.requires.0 ∙ sym (length-take-le a.n a.other.now (omega (arith, c.requires.1, c.if-n-m.false))))
+pub returns-then-list-other : goal.returns-then-list-other
+returns-then-list-other c = members_other c.args.list.now c.args.other.now c.if-list-other.true
 
 pub returns-then-h-lt64 : goal.returns-then-h-lt64
 returns-then-h-lt64 c =
-    let a = c.args in
-    c.same_marks.ensures ∙ ap (λ (x : ℕ). same_members (take a.n a.part.now) (take x a.other.now)) c.if-n-m.false
+    let l = c.args.list.now in
+    let o = c.args.other.now in
+    ap₂ eqb c.marks_of.ensures c.marks_of-then-h-lt64.ensures
+    ∙ words_same l o (small l (omega (arith, c.highest.ensures, c.max-h.ensures, c.if-h-lt64.true))) (small o (omega (arith, c.highest-2.ensures, c.max-h.ensures, c.if-h-lt64.true))) c.if-list-other.false
 
-pub returns : goal.returns
-returns c =
-    let a = c.args in
-    c.same_each.ensures ∙ ap (λ (x : ℕ). same_members (take a.n a.part.now) (take x a.other.now)) c.if-n-m.false
+pub returns-then-all_in : goal.returns-then-all_in
+returns-then-all_in c =
+    let l = c.args.list.now in
+    let o = c.args.other.now in
+    c.all_in-then-all_in.ensures ∙ all_is l o ∙ members_same l o c.if-list-other.false (sym c.if-all_in.true ∙ c.all_in.ensures ∙ all_is o l)
+
+pub returns-else-all_in : goal.returns-else-all_in
+returns-else-all_in c =
+    let l = c.args.list.now in
+    let o = c.args.other.now in
+    c.if-all_in.false ∙ members_not l o c.if-list-other.false (sym c.if-all_in.false ∙ c.all_in.ensures ∙ all_is o l)

@@ -1,17 +1,11 @@
-use native.Mathlib.Omega.{arith}
-use Prim.Native.Nat.{ℕ}
-use mathlib.Core.Path.{refl, ap, ◌∙◌}
-use Rattle.spec.specs.Arrangement.{seek}
+use Rattle.std.proofs.Common.{rules, tests}
 use Rattle.spec.specs.State.{arrangement_of}
-use Rattle.tabling.specs.Places.{free_seek}
-use lib.Count.{count_trailing_zeros}
-use Rattle.theory.specs.Maps.Cells.{cell_none}
+use Rattle.motion.specs.Across.{arrangement_length}
+use Rattle.tabling.specs.Places.{free_at}
 use Rattle.tabling.proofs.placing.first_free.Goals as goal
 
-pub returns-then-w-gt0 : goal.returns-then-w-gt0
-returns-then-w-gt0 c =
-    let e = c.free_word-w.ensures in
-    c.earliest.ensures ∙ ap (count_trailing_zeros 64) e ∙ free_seek 64 (arrangement_of c.args.state.now c.args.zone.now) (omega (arith, e))
-
 pub returns : goal.returns
-returns c = c.seek_robot.ensures ∙ ap (λ (x : ℕ). seek x (arrangement_of c.args.state.now c.args.zone.now)) (cell_none refl)
+returns c =
+    let s = c.args.state.now in
+    let z = c.args.zone.now in
+    c.earliest.ensures (arrangement_of s z) (arrangement_length s z, λ k h b p. free_at s z k b h (search (rules, tests)))

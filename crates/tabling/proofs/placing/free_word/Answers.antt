@@ -1,58 +1,30 @@
-use borrow.Author.Rules.{rules}
-use native.Mathlib.Omega.{arith}
-use Prim.Native.Nat.{ℕ, ◌-◌, ◌≤◌}
-use mathlib.Core.Path.{◌≡◌, ap, ◌∙◌}
-use lib.ListN.{drop}
-use Rattle.spec.specs.State.{arrangement_of}
-use Rattle.motion.specs.Across.{arrangement_length}
-use Rattle.tabling.specs.Places.{free_word, free_half, free_start, free_empty, free_taken}
-use Rattle.cells.specs.Reading.{empty_here, taken_here}
+use Rattle.std.proofs.Common.{◌≡◌, ℕ, ◌-◌, ◌≤◌, drop, ap, ◌∙◌, arith}
+use Rattle.std.proofs.lemmas.Nat.{pow_pos}
+use Rattle.tabling.specs.Places.{free_word, free_room, free_start, free_step, bit_under}
 use Rattle.tabling.proofs.placing.free_word.Goals as goal
 
 pub loop-k-init : goal.loop-k-init
-loop-k-init c =
-    let a = arrangement_of c.args.state.now c.args.zone.now in
-    (search rules, search rules, free_start a c.min-k.result (omega (arith, c.min-k.ensures, arrangement_length c.args.state.now c.args.zone.now)))
+loop-k-init g c = record { fits = pow_pos _; word = λ a t. free_start a c.min-k.result (omega (arith, c.min-k.ensures, t.0)) }
 
 pub overflow_mul-w : goal.overflow_mul-w
-overflow_mul-w c =
-    let a = c.args in
-    let o = c.loop-k in
-    let d : 64 - o.k ≤ 63 = omega arith in
-    omega (arith, free_half o.k (arrangement_of a.state.now a.zone.now) c.loop-k-test.true)
+overflow_mul-w g c = let o = c.loop-k in omega (arith, (free_room o.k o.w 0 (omega arith) (omega (arith, c.min-k.ensures)) o.invariant.fits (omega arith)).1)
 
 pub overflow_add-w : goal.overflow_add-w
-overflow_add-w c =
-    let a = c.args in
+overflow_add-w g c =
     let o = c.loop-k in
-    let d : 64 - o.k ≤ 63 = omega arith in
-    omega (arith, free_half o.k (arrangement_of a.state.now a.zone.now) c.loop-k-test.true)
-
-pub loop-k-preserved-then-r : goal.loop-k-preserved-then-r
-loop-k-preserved-then-r c =
-    let a = c.args in
-    let o = c.loop-k in
-    let n = arrangement_length a.state.now a.zone.now in (
-      omega arith,
-      omega arith,
-      free_empty (arrangement_of a.state.now a.zone.now) o.k o.w c.loop-k-test.true (omega (arith, n)) o.invariant.1 o.invariant.2
-          (empty_here a.state.now a.zone.now (o.k - 1) c.robot_on-r.result.0 (omega arith) c.robot_on-r.ensures c.if-r.true),
-    )
+    omega (arith, (free_room o.k o.w c.from.result (omega arith) (omega (arith, c.min-k.ensures)) o.invariant.fits (omega (arith, c.from.ensures, bit_under c.is_empty.result))).1)
 
 pub loop-k-preserved : goal.loop-k-preserved
-loop-k-preserved c =
-    let a = c.args in
+loop-k-preserved g c =
     let o = c.loop-k in
-    let n = arrangement_length a.state.now a.zone.now in (
-      omega arith,
-      omega arith,
-      free_taken (arrangement_of a.state.now a.zone.now) o.k o.w c.loop-k-test.true (omega (arith, n)) o.invariant.1 o.invariant.2
-          (taken_here a.state.now a.zone.now (o.k - 1) c.robot_on-r.result.0 (omega arith) c.robot_on-r.ensures c.if-r.false),
-    )
+    let u : c.loop-k.k ≤ 64 = omega (arith, c.min-k.ensures) in
+    record {
+      fits = (free_room o.k o.w c.from.result (omega arith) u o.invariant.fits (omega (arith, c.from.ensures, bit_under c.is_empty.result))).0;
+      word = λ a t. free_step a o.k o.w c.from.result c.is_empty.result (omega arith) (omega (arith, c.min-k.ensures, t.0)) u (o.invariant.word a t) c.from.ensures (t.1 (o.k - 1) (omega (arith, c.min-k.ensures)) _ c.is_empty.ensures);
+    }
 
 pub returns : goal.returns
-returns c =
-    let a = c.args in
+returns g c = λ a t.
     let o = c.loop-k in
-    let e : o.k ≡ 0 = omega arith in
-    o.invariant.2 ∙ ap (λ (i : ℕ). free_word (64 - i) (drop i (arrangement_of a.state.now a.zone.now))) e
+    let e : c.loop-k.k ≡ 0 = omega arith in
+    o.invariant.word a t ∙ ap (λ (i : ℕ). free_word (64 - i) (drop i a)) e

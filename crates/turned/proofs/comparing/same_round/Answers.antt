@@ -1,67 +1,25 @@
-use borrow.Author.Rules.{rules}
-use native.Mathlib.Omega.{arith}
-use Prim.Native.Nat.{ℕ}
-use mathlib.Core.Path.{◌≡◌, refl, ap, sym, ◌∙◌}
-use lib.ListN.{length, get_or}
+use Rattle.std.proofs.Common.{◌≡◌, refl, take, drop, ◌-◌, length, ◌∙◌, ap₂, take_all, length-drop, arith, rules, tests}
+use Rattle.std.proofs.lemmas.Iterator.{YieldsList-from_slice, YieldsList-from_map_by}
+use Rattle.std.proofs.lemmas.Iterator.Consumers.{YieldsList-at, YieldsList-from_chain, YieldsList-from_filter}
+use Rattle.spec.specs.Outcome.{same_list}
 use Rattle.spec.specs.State.{robot_on}
-use Rattle.circle.specs.Runs.{frame_size}
-use Rattle.turned.specs.Comparing.{rounds_free, rounds_short, rounds_differ, rounds_on, rounds_over}
+use Rattle.turned.specs.Comparing.{robot?, number, robots_listed, robots_round, same_from_eq}
 use Rattle.turned.proofs.comparing.same_round.Goals as goal
-
-pub loop-i-init : goal.loop-i-init
-loop-i-init c = (refl, search rules, search rules, refl)
-
-pub taken_from-k-requires : goal.taken_from-k-requires
-taken_from-k-requires c = (search rules, search rules)
-
-pub returns-then-k-m : goal.returns-then-k-m
-returns-then-k-m c =
-    let a = c.args in
-    let o = c.loop-i in
-    rounds_short a.state.now a.goals.now a.zone.now a.q (search rules) o.i o.k c.taken_from-k.result c.robot_at-x.result.0 (omega arith) c.robot_at-x.ensures c.if-x.true
-    c.taken_from-k.ensures (c.if-k-m.true ∙ o.invariant.0) ∙ o.invariant.3
-
-pub returns-then-x-y : goal.returns-then-x-y
-returns-then-x-y c =
-    let a = c.args in
-    let o = c.loop-i in
-    let z = a.zone.now in
-    rounds_differ a.state.now a.goals.now z a.q (search rules) o.i o.k c.taken_from-k.result c.robot_at-x.result.0 c.robot_at-y.result.0 (omega arith) c.robot_at-x.ensures c.if-x.true
-    c.taken_from-k.ensures (λ e. c.if-k-m.false (e ∙ sym o.invariant.0)) (c.robot_at-y.ensures ∙ ap (λ (i : ℕ). robot_on a.goals.now (get_or z i 0)) c.around.ensures) c.if-x-y.true ∙ o.invariant.3
-
-pub overflow_add-k : goal.overflow_add-k
-overflow_add-k c =
-    let a = c.args in
-    omega (arith, c.taken_from-k.ensures.within, frame_size a.goals.now a.zone.now a.q (search rules))
-
-pub loop-i-preserved-then-x : goal.loop-i-preserved-then-x
-loop-i-preserved-then-x c =
-    let a = c.args in
-    let o = c.loop-i in
-    let z = a.zone.now in
-    let n : c.taken_from-k.result ≡ length z → ⊥ = λ e. c.if-k-m.false (e ∙ sym o.invariant.0) in (
-      refl,
-      omega arith,
-      omega (arith, n, c.taken_from-k.ensures.within, frame_size a.goals.now z a.q (search rules)),
-      rounds_on a.state.now a.goals.now z a.q (search rules) o.i o.k c.taken_from-k.result c.robot_at-x.result.0 c.robot_at-y.result.0 (omega arith) c.robot_at-x.ensures c.if-x.true
-          c.taken_from-k.ensures n (c.robot_at-y.ensures ∙ ap (λ (i : ℕ). robot_on a.goals.now (get_or z i 0)) c.around.ensures) c.if-x-y.false ∙ o.invariant.3,
-    )
-
-pub loop-i-preserved : goal.loop-i-preserved
-loop-i-preserved c =
-    let a = c.args in
-    let o = c.loop-i in (
-      refl,
-      omega arith,
-      o.invariant.2,
-      rounds_free a.state.now a.goals.now a.zone.now a.q (search rules) o.i o.k c.robot_at-x.result.0 (omega arith) c.robot_at-x.ensures c.if-x.false ∙ o.invariant.3,
-    )
-
-pub taken_from-rest-requires : goal.taken_from-rest-requires
-taken_from-rest-requires c = (search rules, search rules)
 
 pub returns : goal.returns
 returns c =
-    let a = c.args in
-    let o = c.loop-i in
-    rounds_over a.state.now a.goals.now a.zone.now a.q (search rules) o.i o.k c.taken_from-rest.result (omega arith) c.taken_from-rest.ensures ∙ o.invariant.3
+    let s = c.args.state.now in
+    let t = c.args.goals.now in
+    let z = c.args.zone.now in
+    let n = c.args.q in
+    let rest = c.iter.ensures.rest ∙ take_all (length z - n) (drop n z) (omega (arith, length-drop n z)) in
+    let round = YieldsList-from_chain (YieldsList-at c.chain-round.ensures.first (YieldsList-from_slice (drop n z) rest)) (YieldsList-from_slice (take n z) c.chain-round.ensures.second.0) c.chain-round.ensures.first_done c.chain-round.ensures.second_done in
+    same_from_eq (λ x y. y ≡ x) c.filter.result c.eq.result c.eq.ensures.ran
+    (YieldsList-from_filter _ robot?
+    (YieldsList-at c.filter-robots.ensures.source (YieldsList-from_map_by _ number (robot_on s) (YieldsList-at c.map.ensures.source (YieldsList-from_slice z c.iter-2.ensures.rest)) c.map.ensures.closure (λ x r q k. search (rules, tests))))
+    c.filter-robots.ensures.closure (λ x b q k. search (rules, tests)))
+    (λ it e. YieldsList-at e (YieldsList-from_filter _ robot?
+    (YieldsList-at c.filter.ensures.source (YieldsList-from_map_by _ number (robot_on t) (YieldsList-at c.map-2.ensures.source round) c.map-2.ensures.closure (λ x r q k. search (rules, tests))))
+    c.filter.ensures.closure (λ x b q k. search (rules, tests))))
+    (λ x y. refl)
+    ∙ ap₂ same_list (robots_listed s z) (robots_round t z n)

@@ -1,38 +1,36 @@
-use borrow.Author.Rules.{rules}
-use native.Mathlib.Omega.{arith}
-use mathlib.Core.Path.{sym, ◌∙◌}
-use Rattle.spec.specs.State.{arrangement_of}
+use Rattle.std.proofs.Common.{suc, ◌∙◌, arith, rules, tests}
+use Rattle.std.proofs.lemmas.Iterator.{YieldsList-from_slice, YieldsList-from_map_by}
+use Rattle.std.proofs.lemmas.Iterator.Search.{find_from_yields_List}
+use Rattle.std.proofs.lemmas.Iterator.Consumers.{YieldsList-at}
+use Rattle.spec.specs.State.{robot_on, arrangement_of}
 use Rattle.motion.specs.Across.{arrangement_length}
-use Prim.Native.Nat.{suc}
 use Rattle.circle.specs.Reading.{seek_within}
-use Rattle.turned.specs.Comparing.{turned_none, turned_from, turned_out, first_none, first_robot}
+use Rattle.turned.specs.Comparing.{robot?, number, first_found, turned_none, turned_from}
 use Rattle.turned.proofs.comparing.same_turned.Goals as goal
 
-pub returns-then-p-m : goal.returns-then-p-m
-returns-then-p-m c =
-    let a = c.args in
-    let z = a.zone.now in
-    c.is_vacant.ensures
-    ∙ turned_none (arrangement_of a.state.now z) (arrangement_of a.goals.now z) (first_none a.state.now z (search rules) c.taken_from-p.result c.taken_from-p.ensures c.if-p-m.true)
-
-pub returns-then-q-m : goal.returns-then-q-m
-returns-then-q-m c =
-    let a = c.args in
-    let z = a.zone.now in
-    turned_out (arrangement_of a.state.now z) (arrangement_of a.goals.now z) c.robot_at-r.result.0 c.place_of-q.result _
-    (first_robot a.state.now z (search rules) c.taken_from-p.result c.robot_at-r.result.0 c.taken_from-p.ensures c.if-p-m.false c.robot_at-r.ensures)
-    c.place_of-q.ensures (c.if-q-m.true ∙ sym (arrangement_length a.goals.now z))
+pub returns-in_default : goal.returns-in_default
+returns-in_default c =
+    let s = c.args.state.now in
+    let z = c.args.zone.now in
+    let first = first_found s z c.find.result
+    (find_from_yields_List robot? _ _ c.find.result c.find.ensures.ran
+    (YieldsList-from_map_by _ number (robot_on s) (YieldsList-at c.map.ensures.source (YieldsList-from_slice z c.iter.ensures.rest)) c.map.ensures.closure (λ x r q k. search (rules, tests)))
+    (λ x b q k. search (rules, tests))) in
+    c.is_vacant.ensures ∙ turned_none (arrangement_of s z) (arrangement_of c.args.goals.now z) (rw c.in_default.is at first)
 
 pub same_round-requires : goal.same_round-requires
 same_round-requires c =
-    let a = c.args in
-    omega (arith, c.if-q-m.false, c.place_of-q.ensures, seek_within (suc c.robot_at-r.result.0) (arrangement_of a.goals.now a.zone.now), arrangement_length a.goals.now a.zone.now)
+    let t = c.args.goals.now in
+    let z = c.args.zone.now in
+    omega (arith, c.place_of-q.ensures, seek_within (suc c.in-Some.r.0) (arrangement_of t z), arrangement_length t z)
 
 pub returns : goal.returns
 returns c =
-    let a = c.args in
-    let z = a.zone.now in
-    c.same_round.ensures
-    ∙ turned_from (arrangement_of a.state.now z) (arrangement_of a.goals.now z) c.robot_at-r.result.0 c.place_of-q.result _
-    (first_robot a.state.now z (search rules) c.taken_from-p.result c.robot_at-r.result.0 c.taken_from-p.ensures c.if-p-m.false c.robot_at-r.ensures)
-    c.place_of-q.ensures
+    let s = c.args.state.now in
+    let z = c.args.zone.now in
+    let first = first_found s z c.find.result
+    (find_from_yields_List robot? _ _ c.find.result c.find.ensures.ran
+    (YieldsList-from_map_by _ number (robot_on s) (YieldsList-at c.map.ensures.source (YieldsList-from_slice z c.iter.ensures.rest)) c.map.ensures.closure (λ x r q k. search (rules, tests)))
+    (λ x b q k. search (rules, tests))) in
+    let f = rw c.in-Some.is at first in
+    c.same_round.ensures ∙ turned_from (arrangement_of s z) (arrangement_of c.args.goals.now z) c.in-Some.r.0 c.place_of-q.result f.0 f.1 c.place_of-q.ensures
