@@ -4,12 +4,10 @@
 ghost use Rattle.std.specs.Prelude.{◌≡◌, ℕ, List, ◌≤◌};
 ghost use Rattle.spec.specs.Layout.{Map, placing_of};
 ghost use Rattle.zoning.specs.Bytes.{held};
-ghost use Rattle.layout.specs.Tables.{entry_of};
 ghost use Rattle.placing.specs.declared.PlacingFault.TheVariants.{File};
 ghost use Rattle.placing.specs.Placing.{placing_in, Marked, VertexIs, RobotsAre, PlacingIs};
 
 use checking::{FileFault, check_file};
-use numbering::{Robot, Vertex};
 use zoning::byte;
 
 // Why a placing is refused, with the block or the payload offset.
@@ -104,11 +102,4 @@ pub fn read_placing(file: &[u8], n: usize) -> Result<PlacingTables, PlacingFault
 {
     let m = check_file(file, 2, 1)?;
     read_payload(file, m, n)
-}
-
-// A robot's entry in the table of starts or of goals.
-pub fn vertex_of(table: &[u8; 64], r: Robot) -> Vertex
-    ensures { result.0 ≡ entry_of 64 0 table.now r.0 }
-{
-    Vertex(layout::entry(table, r.0 as usize, 0))
 }
