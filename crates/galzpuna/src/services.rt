@@ -1,134 +1,112 @@
 // The services, which crates/galzpuna_c gives to C under the same names.
-ghost use Rattle.std.specs.Prelude.{◌≡◌, ◌<◌, length, []};
+ghost use Rattle.std.specs.Prelude.{◌≡◌, length, []};
+ghost use Rattle.spec.specs.Outcome.{u16};
 ghost use Rattle.spec.specs.Services.{judging, resolving, drawing, rounds};
-ghost use Rattle.opening.specs.Opened.{MapFiled};
-ghost use Rattle.galzpuna.specs.Services.{answered, refusal};
+ghost use Rattle.writer.specs.Laid.{laid_all};
+ghost use Rattle.answers.specs.Delivered.{delivered_of};
+ghost use Rattle.galzpuna.specs.Services.{answered, told, Small, Served};
 
 use crate::Answer;
-use opening::files::open_list;
-use planning::plans::{judge_files, resolve_files};
-use refusals::of_map_file;
+use answers::deliver;
+use drawing::draw_moves;
+use motion::State;
+use opening::{Opened, open_list};
+use planning::{judge_files, resolve_files};
+use refusals::Refusal;
+use timing::write_rounds;
+use writer::put_word;
 
-// Gives a refusal, and leaves the whole buffer zero.
-fn refuse(out: &mut [u8], number: u32, place: usize) -> Answer
-    requires { place < 65536 }
-    ensures { answered result out.new ≡ refusal number place out.old }
+// C's answer of what a service comes to: a refusal leaves the whole buffer zero.
+fn answer(served: Result<usize, Refusal>, out: &mut [u8]) -> Answer
+    requires { Small served }
+    ensures { answered result out.new ≡ told served out.old }
 {
-    answers::zero(out);
-    Answer {
-        number: number,
-        place: place as u32,
+    match served {
+        Ok(bytes) => Answer {
+            number: 0,
+            place: bytes as u32,
+        },
+        Err(refusal) => {
+            out.fill(0);
+            Answer {
+                number: refusal.number(),
+                place: refusal.place() as u32,
+            }
+        }
     }
 }
 
-// Drawing, where the map's blocks have passed.
-fn draw_checked(map: &[u8], len: usize, placing: &[u8], moves: &[u8], out: &mut [u8]) -> Answer
-    requires { MapFiled map.now len }
-    ensures { answered result out.new ≡ drawing map.now placing.now moves.now (length out.old) }
+// Counts what was laid behind the two bytes of the count, and finishes the file of `len` payload bytes: how many bytes it has.
+fn finish(out: &mut [u8], count: usize, kind: u8, limit: u16, len: usize) -> Result<usize, Refusal>
+    ensures { Served (delivered_of kind limit len (laid_all out.old 0 (u16 count))) result out.new }
 {
-    let o = open_list(map, len, placing, moves);
-    let f = o.refusal;
-    let number = f.number;
-    if number != 0 {
-        return refuse(out, number, f.place);
-    }
-    let m = o.map;
-    let p = o.placing;
-    let starts = p.starts;
-    let k = p.robots as usize;
-    let count = o.count;
-    let listed = m.listed;
-    let s = motion::standing(starts, k);
-    let d = drawing::draw_moves(moves, count, m, listed, s, out);
-    writer::put_word(out, 0, d.steps);
-    let w = answers::deliver(out, 3, 64, d.bytes);
-    Answer {
-        number: w.number,
-        place: w.value,
-    }
+    put_word(out, 0, count);
+    Ok(deliver(out, kind, limit, len)?)
 }
 
-// Drawing: the plan of a move list that is legal and reaches the goals.
-pub fn galzpuna_draw(map: &[u8], placing: &[u8], moves: &[u8], out: &mut [u8]) -> Answer
-    ensures { answered result out.new ≡ drawing map.now placing.now moves.now (length out.old) }
+// Judging: nothing is written.
+fn judge(map: &[u8], placing: &[u8], plan: &[u8]) -> Result<usize, Refusal>
+    ensures { Served (judging map.now placing.now plan.now) result [] }
 {
-    let filed = checking::check_file(map, 1, 9);
-    let f = of_map_file(filed);
-    let number = f.number;
-    if number != 0 {
-        return refuse(out, number, f.place);
-    }
-    draw_checked(map, f.place, placing, moves, out)
+    judge_files(map, placing, plan)?;
+    Ok(0)
 }
 
-// Rounds, where the map's blocks have passed.
-fn rounds_checked(map: &[u8], len: usize, placing: &[u8], moves: &[u8], out: &mut [u8]) -> Answer
-    requires { MapFiled map.now len }
-    ensures { answered result out.new ≡ rounds map.now placing.now moves.now (length out.old) }
+// Resolving: the bytes of the move list.
+fn resolve(map: &[u8], placing: &[u8], plan: &[u8], out: &mut [u8]) -> Result<usize, Refusal>
+    ensures { Served (resolving map.now placing.now plan.now (length out.old)) result out.new }
 {
-    let o = open_list(map, len, placing, moves);
-    let f = o.refusal;
-    let number = f.number;
-    if number != 0 {
-        return refuse(out, number, f.place);
-    }
-    let count = o.count;
-    timing::write_rounds(moves, count, out);
-    writer::put_word(out, 0, count);
-    let w = answers::deliver(out, 5, 128, 2 + count * 2);
-    Answer {
-        number: w.number,
-        place: w.value,
-    }
+    let count = resolve_files(map, placing, plan, out)?;
+    finish(out, count, 4, 128, 2 + count * 3)
 }
 
-// Rounds: the round sheet of a move list that is legal and reaches the goals.
-pub fn galzpuna_rounds(map: &[u8], placing: &[u8], moves: &[u8], out: &mut [u8]) -> Answer
-    ensures { answered result out.new ≡ rounds map.now placing.now moves.now (length out.old) }
+// Drawing: the bytes of the plan.
+fn draw(map: &[u8], placing: &[u8], moves: &[u8], out: &mut [u8]) -> Result<usize, Refusal>
+    ensures { Served (drawing map.now placing.now moves.now (length out.old)) result out.new }
 {
-    let filed = checking::check_file(map, 1, 9);
-    let f = of_map_file(filed);
-    let number = f.number;
-    if number != 0 {
-        return refuse(out, number, f.place);
-    }
-    rounds_checked(map, f.place, placing, moves, out)
+    let Opened { yard, count } = open_list(map, placing, moves)?;
+    let state = State::standing(yard.placing.starts, yard.placing.robots as usize);
+    let drawn = draw_moves(moves, count, &yard.map, state, out);
+    finish(out, drawn.steps, 3, 64, drawn.bytes)
+}
+
+// Rounds: the bytes of the round sheet.
+fn time(map: &[u8], placing: &[u8], moves: &[u8], out: &mut [u8]) -> Result<usize, Refusal>
+    ensures { Served (rounds map.now placing.now moves.now (length out.old)) result out.new }
+{
+    let Opened { count, .. } = open_list(map, placing, moves)?;
+    write_rounds(moves, count, out);
+    finish(out, count, 5, 128, 2 + count * 2)
 }
 
 // Judging: is the plan cleared? Nothing is written.
 pub fn galzpuna_judge(map: &[u8], placing: &[u8], plan: &[u8]) -> Answer
     ensures { answered result [] ≡ judging map.now placing.now plan.now }
 {
-    let f = judge_files(map, placing, plan);
-    let number = f.number;
-    if number != 0 {
-        let place = f.place;
-        return Answer {
-            number: number,
-            place: place as u32,
-        };
-    }
-    Answer {
-        number: 0,
-        place: 0,
-    }
+    let judged = judge(map, placing, plan);
+    answer(judged, &mut [])
 }
 
 // Resolving: the move list of a plan that is cleared.
 pub fn galzpuna_resolve(map: &[u8], placing: &[u8], plan: &[u8], out: &mut [u8]) -> Answer
     ensures { answered result out.new ≡ resolving map.now placing.now plan.now (length out.old) }
 {
-    let o = resolve_files(map, placing, plan, out);
-    let f = o.refusal;
-    let number = f.number;
-    if number != 0 {
-        return refuse(out, number, f.place);
-    }
-    let count = o.count;
-    writer::put_word(out, 0, count);
-    let w = answers::deliver(out, 4, 128, 2 + count * 3);
-    Answer {
-        number: w.number,
-        place: w.value,
-    }
+    let resolved = resolve(map, placing, plan, out);
+    answer(resolved, out)
+}
+
+// Drawing: the plan of a move list that is legal and reaches the goals.
+pub fn galzpuna_draw(map: &[u8], placing: &[u8], moves: &[u8], out: &mut [u8]) -> Answer
+    ensures { answered result out.new ≡ drawing map.now placing.now moves.now (length out.old) }
+{
+    let drawn = draw(map, placing, moves, out);
+    answer(drawn, out)
+}
+
+// Rounds: the round sheet of a move list that is legal and reaches the goals.
+pub fn galzpuna_rounds(map: &[u8], placing: &[u8], moves: &[u8], out: &mut [u8]) -> Answer
+    ensures { answered result out.new ≡ rounds map.now placing.now moves.now (length out.old) }
+{
+    let timed = time(map, placing, moves, out);
+    answer(timed, out)
 }

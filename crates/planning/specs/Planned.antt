@@ -1,8 +1,8 @@
 -- A plan that is read and judged, or resolved.
-use Rattle.std.specs.Prelude.{◌≡◌, ℕ, ◌*◌, ◌/◌, ◌≤◌, ◌<◌, List, [], length, get_or, take, drop, ◌⊎◌, Bool, true, false}
+use Rattle.std.specs.Prelude.{◌≡◌, ℕ, ◌*◌, ◌/◌, ◌≤◌, ◌<◌, List, length, get_or, take, drop, ◌⊎◌, Result, Ok, Err, MatchResult, ⊤}
 use Rattle.std.proofs.Math.Path.{refl, sym, ap}
 use Rattle.std.proofs.Common.{◌∙◌, arith, inl, inr}
-use Rattle.spec.specs.Outcome.{Outcome, ok, refuse}
+use Rattle.spec.specs.Outcome.{Outcome, ok}
 use Rattle.spec.specs.Wire.{payload_of}
 use Rattle.spec.specs.Layout.{Zone, zone_at}
 use Rattle.spec.specs.Arrangement.{Move}
@@ -14,57 +14,73 @@ use Rattle.theory.specs.Basics.Outcomes.{bind}
 use Rattle.theory.specs.Basics.Lists.{get_d_default}
 use Rattle.theory.specs.Codec.Written.{written_bytes}
 use Rattle.theory.specs.Services.Places.{small_payload, small_resolved}
-use Rattle.layout.specs.declared.MapRead.{MapRead}
-use Rattle.placing.specs.declared.PlacingRead.{PlacingRead}
+use Rattle.layout.specs.declared.MapTables.{MapTables}
+use Rattle.placing.specs.declared.PlacingTables.{PlacingTables}
 use Rattle.wire.specs.Payload.{payload}
 use Rattle.checking.specs.Checked.{Whole}
-use Rattle.writer.specs.Laid.{laid_all, laid_length}
-use Rattle.walking.specs.Given.{Given, Placement, Cleared}
-use Rattle.resolve.specs.Whole.{ResolvedOr}
-use Rattle.testing.specs.Fault.{fault_of}
+use Rattle.writer.specs.Laid.{laid_all}
+use Rattle.walking.specs.OnMap.{GivenOn, PlacementOn, ClearedOn}
+use Rattle.resolve.specs.Whole.{ResolvedTo, OverTo, ResolvedOr}
 use Rattle.judge.specs.Judging.{JudgedTo}
 use Rattle.testing.specs.declared.PlanFault.{PlanFault}
-use Rattle.testing.specs.declared.PlanFault.TheVariants as plan
-use Rattle.resolve.specs.declared.Resolved.{Resolved}
+use Rattle.resolve.specs.declared.TooManyMoves.{TooManyMoves}
+use Rattle.answers.specs.declared.Undelivered.TheVariants.{TooLong}
 use Rattle.opening.specs.declared.Yard.{Yard}
-use Rattle.planning.specs.declared.Planned.{Planned}
 use Rattle.refusals.specs.declared.Refusal.{Refusal}
-use Rattle.refusals.specs.Refusals.{refusal_or, moves_file}
-use Rattle.opening.specs.Opened.{refusal_some, refusal_none, refused_bind, small_at, YardRead, YardIs}
+use Rattle.refusals.specs.declared.Refusal.TheVariants as refusal
+use Rattle.refusals.specs.Refusals.{refused}
+use Rattle.opening.specs.Opened.{refused_bind, small_at, RefusedAs, YardRead}
 
--- what resolving the three files comes to: the list, counted and laid in the buffer; or the refusal
+-- what resolving the three files comes to: the list, counted and laid in the buffer
 pub record Moves (a b c o₀ : List ℕ) (count : ℕ) (o : List ℕ) : Type 0 where
   pub moves : List Move
   pub resolved : meaning.plan_moves a b c ≡ ok moves
   pub counted : count ≡ length moves
   pub laid : o ≡ laid_all o₀ 2 (move_bytes moves)
 
--- a list of at least `count` moves, which are more than one holds
-pub record Over (a b c : List ℕ) (count : ℕ) : Type 0 where
+-- a list of more moves than one holds
+pub record Over (a b c : List ℕ) : Type 0 where
   pub moves : List Move
   pub resolved : meaning.plan_moves a b c ≡ ok moves
-  pub most : count ≤ length moves
-  pub over : 21503 < count
+  pub over : 21503 < length moves
 
-pub record PlannedIs (a b c o₀ : List ℕ) (r : Planned) (o : List ℕ) : Type 0 where
-  pub refused : (r.refusal.number ≡ 0 → ⊥) → meaning.plan_moves a b c ≡ refuse r.refusal.number r.refusal.place
-  pub small : (r.refusal.number ≡ 0 → ⊥) → r.refusal.place < 65536
-  pub resolved : r.refusal.number ≡ 0 → Moves a b c o₀ r.count o ⊎ Over a b c r.count
+-- the list, or why there is none: one of the files is refused, or the list is too long
+abbrev pub Resolved : (a b c o₀ : List ℕ) → Result ℕ Refusal → List ℕ → Type 0
+Resolved a b c o₀ (Ok count) o = Moves a b c o₀ count o
+Resolved a b c o₀ (Err e) o = RefusedAs (meaning.plan_moves a b c) e ⊎ ((e ≡ refusal.Answer TooLong) × Over a b c)
+
+pub record PlannedIs (a b c o₀ : List ℕ) (r : Result ℕ Refusal) (o : List ℕ) : Type 0 where
+  pub resolved : Resolved a b c o₀ r o
   pub long : length o ≡ length o₀
 
--- what judging the three files comes to: what resolving them would, with a buffer of no length
-pub record JudgedIs (a b c : List ℕ) (r : Refusal) : Type 0 where
-  pub count : ℕ
-  pub buffer : List ℕ
-  pub planned : PlannedIs a b c [] (record { refusal = r; count = count }) buffer
+-- what judging the three files comes to: there is a list, or one of the files is refused
+abbrev pub JudgedIs : (a b c : List ℕ) → Result ⊤ Refusal → Type 0
+JudgedIs a b c (Ok u) = (ms : List Move) × (meaning.plan_moves a b c ≡ ok ms)
+JudgedIs a b c (Err e) = RefusedAs (meaning.plan_moves a b c) e
 
--- ---- the tables that the resolver is given
+-- a map and a placing on which the plan is cleared, as the code holds them
+pub record YardCleared (a b c : List ℕ) (t : MapTables) (pl : PlacingTables) : Type 0 where
+  pub rows : List (List ℕ)
+  pub yard : YardRead a b t pl rows
+  pub len : ℕ
+  pub most : len ≤ length c / 512 * 504
+  pub few : len ≤ 32256
+  pub read : payload_of 30 3 64 c ≡ ok (take len (payload c))
+  pub moves : List Move
+  pub resolved : resolved_moves yard.it.graph yard.it.placing (take len (payload c)) ≡ ok moves
 
-module _ (a b : List ℕ) (map : MapRead) (pl : PlacingRead) (rows : List (List ℕ)) (d : YardRead a b map pl rows) where
-  zone_is : (z : ℕ) → z < zone_count d.it.graph → zone_at d.it.graph z ≡ record { kind = get_or map.kind z 0; vertices = take (get_or map.size z 0) (drop (get_or map.first z 0) map.listed) }
+-- the plan is cleared, or one of the files is refused
+abbrev pub ClearedIs : (a b c : List ℕ) → Result Yard Refusal → Type 0
+ClearedIs a b c (Ok y) = YardCleared a b c y.map y.placing
+ClearedIs a b c (Err e) = RefusedAs (meaning.plan_moves a b c) e
+
+-- ---- the tables that the judge and the resolver are given
+
+module _ (a b : List ℕ) (t : MapTables) (pl : PlacingTables) (rows : List (List ℕ)) (d : YardRead a b t pl rows) where
+  zone_is : (z : ℕ) → z < zone_count d.it.graph → zone_at d.it.graph z ≡ record { kind = get_or t.kind z 0; vertices = take (get_or t.size z 0) (drop (get_or t.first z 0) t.listed) }
   zone_is z h = d.held.zone_at_lem z (omega (arith, d.held.count))
 
-  pub yard_given : Given d.it.graph map.vertices pl.robots map.kind map.first map.size map.listed map.zone map.place rows
+  pub yard_given : GivenOn d.it.graph pl.robots t rows
   yard_given = record {
     accepted = d.accepted;
     vertices = sym d.held.size;
@@ -74,13 +90,13 @@ module _ (a b : List ℕ) (map : MapRead) (pl : PlacingRead) (rows : List (List 
       fits = λ z h. omega (arith, d.held.inside z (omega (arith, d.held.count)), d.held.long_listed);
       kinds = λ z h. ap (λ (y : Zone). y.kind) (zone_is z h);
       vertices = λ z h. ap (λ (y : Zone). y.vertices) (zone_is z h);
-      zones = λ v h. get_d_default map.zone v 0 255 (omega (arith, d.held.long_zone, d.held.size, d.held.small)) ∙ d.held.zone_of_lem v;
+      zones = λ v h. get_d_default t.zone v 0 255 (omega (arith, d.held.long_zone, d.held.size, d.held.small)) ∙ d.held.zone_of_lem v;
       places = λ v h. d.held.place_of_lem v;
     };
     edges = d.shown;
   }
 
-  unfoldable pub yard_placement : Placement map.vertices map.zones pl.robots map.kind map.first map.size map.listed map.zone map.place rows pl.starts pl.goals
+  unfoldable pub yard_placement : PlacementOn t pl.robots rows pl.starts pl.goals
   yard_placement = record {
     map = d.it.graph;
     placing = d.it.placing;
@@ -91,100 +107,81 @@ module _ (a b : List ℕ) (map : MapRead) (pl : PlacingRead) (rows : List (List 
     on_goals_lem = sym d.robots.goals;
   }
 
-  -- a plan that judging cleared
-  unfoldable pub yard_cleared : (f : List ℕ) (len : ℕ) → len ≤ length f / 512 * 504 → len ≤ 32256 → (g : PlanFault) → JudgedTo d.it.graph d.it.placing (take len (payload f)) g → g ≡ plan.None
-      → Cleared f map.zones pl.robots map.kind map.first map.size map.listed map.zone map.place pl.starts pl.goals
-  unfolding yard_placement
-  yard_cleared f len most few g j e = record {
-    n = map.vertices;
-    rows = rows;
-    on = yard_placement;
-    len = len;
-    most = most;
-    few = few;
-    moves = j.moves;
-    resolved = sym j.answer ∙ ap (λ (h : PlanFault). fault_of h j.moves) e;
-  }
-
--- a plan's payload is at most 64 parts
-pub len_few : (f : List ℕ) (n : ℕ) → Whole 64 f n → n ≤ 32256
-len_few f n w = omega (arith, w.most, w.limited)
-
 -- ---- the stages
 
-module _ (a b c o₀ : List ℕ) where
+module _ (a b c : List ℕ) where
   -- map or placing is refused
-  pub planned_instance : (n q : ℕ) → (n ≡ 0 → ⊥) → meaning.instance_of a b ≡ refuse n q → q < 65536 → PlannedIs a b c o₀ (record { refusal = record { number = n; place = q }; count = 0 }) o₀
+  pub cleared_yard : (e : Refusal) → RefusedAs (meaning.instance_of a b) e → RefusedAs (meaning.plan_moves a b c) e
   unfolding meaning.plan_moves
-  planned_instance n q h e l = record { refused = λ z. refused_bind _ _ n q e; small = λ z. l; resolved = λ z. absurd (h z); long = refl }
+  cleared_yard e w = record { answer = refused_bind _ _ _ _ w.answer; small = w.small }
 
-  pub planned_yard : (rows : List (List ℕ)) (y : Yard) → YardIs a b rows y → (y.refusal.number ≡ 0 → ⊥) → PlannedIs a b c o₀ (record { refusal = y.refusal; count = 0 }) o₀
-  planned_yard rows y w h = planned_instance y.refusal.number y.refusal.place h (w.refused h) (w.small h)
-
-  module _ (map : MapRead) (pl : PlacingRead) (rows : List (List ℕ)) (d : YardRead a b map pl rows) (hc : Bytes c) (o : Outcome (List ℕ)) (ec : o ≡ payload_of 30 3 64 c)
-      (n q : ℕ) (e : moves_file n q c ≡ o) where
+  module _ (t : MapTables) (pl : PlacingTables) (rows : List (List ℕ)) (d : YardRead a b t pl rows) where
     -- the plan's file is refused
-    pub planned_file : (n ≡ 0 → ⊥) → PlannedIs a b c o₀ (record { refusal = record { number = n; place = q }; count = 0 }) o₀
+    pub cleared_file : (e : Refusal) → payload_of 30 3 64 c ≡ refused e → RefusedAs (meaning.plan_moves a b c) e
     unfolding meaning.plan_moves
-    planned_file h =
-        let w : payload_of 30 3 64 c ≡ refuse n q = sym (e ∙ ec) ∙ refusal_some n q (take q (payload c)) h in
-        record {
-          refused = λ z. bind _ _ _ d.instance ∙ refused_bind _ _ n q w;
-          small = λ z. small_at 65536 n q (payload_of 30 3 64 c) (small_payload 65536 30 3 64 c (omega arith) (omega arith)) w;
-          resolved = λ z. absurd (h z);
-          long = refl;
-        }
+    cleared_file e w = record {
+      answer = bind _ _ _ d.instance ∙ refused_bind _ _ _ _ w;
+      small = small_at 65536 _ _ (payload_of 30 3 64 c) (small_payload 65536 30 3 64 c (omega arith) (omega arith)) w;
+    }
 
-    module _ (z : n ≡ 0) (f : PlanFault) (j : JudgedTo d.it.graph d.it.placing (take q (payload c)) f) (n₀ q₀ : ℕ)
-        (e₀ : (ms : List Move) → refusal_or n₀ q₀ ms ≡ fault_of f ms) where
-      -- the plan's payload is read
-      read : payload_of 30 3 64 c ≡ ok (take q (payload c))
-      read = sym (e ∙ ec) ∙ refusal_none n q (take q (payload c)) z
-
-      -- so what is left is to resolve it
-      plan_on : meaning.plan_moves a b c ≡ resolved_moves d.it.graph d.it.placing (take q (payload c))
+    module _ (len : ℕ) (read : payload_of 30 3 64 c ≡ ok (take len (payload c))) where
+      -- what is left is to resolve the plan
+      plan_on : meaning.plan_moves a b c ≡ resolved_moves d.it.graph d.it.placing (take len (payload c))
       unfolding meaning.plan_moves
       plan_on = bind _ _ _ d.instance ∙ bind _ _ _ read
 
-      -- which judging says
-      plan_is : resolved_moves d.it.graph d.it.placing (take q (payload c)) ≡ refusal_or n₀ q₀ j.moves
-      plan_is = sym j.answer ∙ sym (e₀ j.moves)
-
       -- it is refused at a step, a surplus or the goals
-      judged_refuse : (n₀ ≡ 0 → ⊥) → resolved_moves d.it.graph d.it.placing (take q (payload c)) ≡ refuse n₀ q₀
-      judged_refuse h = plan_is ∙ refusal_some n₀ q₀ j.moves h
+      pub cleared_plan : Bytes c → (e : PlanFault) → JudgedTo d.it.graph d.it.placing (take len (payload c)) (Err e) → RefusedAs (meaning.plan_moves a b c) (refusal.Plan e)
+      cleared_plan hc e j =
+          let x : resolved_moves d.it.graph d.it.placing (take len (payload c)) ≡ refused (refusal.Plan e) = sym j.answer in
+          record {
+            answer = plan_on ∙ x;
+            small = small_at 65536 _ _ (resolved_moves d.it.graph d.it.placing (take len (payload c)))
+                (small_resolved d.it.graph d.it.placing (take len (payload c)) (written_bytes 30 3 64 c (take len (payload c)) hc read) (omega (arith, d.held.few, d.held.count))) x;
+          }
 
-      -- at a place that fits
-      judged_small : (n₀ ≡ 0 → ⊥) → q₀ < 65536
-      judged_small h = small_at 65536 n₀ q₀ (resolved_moves d.it.graph d.it.placing (take q (payload c)))
-          (small_resolved d.it.graph d.it.placing (take q (payload c)) (written_bytes 30 3 64 c (take q (payload c)) hc read) (omega (arith, d.held.few, d.held.count)))
-          (judged_refuse h)
-
-      -- it is not cleared
-      pub planned_refused : (n₀ ≡ 0 → ⊥) → PlannedIs a b c o₀ (record { refusal = record { number = n₀; place = q₀ }; count = 0 }) o₀
-      planned_refused h = record { refused = λ y. plan_on ∙ judged_refuse y; small = judged_small; resolved = λ y. absurd (h y); long = refl }
-
-      -- what judging says of the plan
-      pub planned_judged : JudgedIs a b c (record { number = n₀; place = q₀ })
-      planned_judged = record {
-        count = length j.moves;
-        buffer = laid_all [] 2 (move_bytes j.moves);
-        planned = record {
-          refused = λ y. plan_on ∙ judged_refuse y;
-          small = judged_small;
-          resolved = λ y. inl (record { moves = j.moves; resolved = plan_on ∙ plan_is ∙ refusal_none n₀ q₀ j.moves y; counted = refl; laid = refl });
-          long = laid_length [] 2 (move_bytes j.moves);
-        };
+      -- it is cleared
+      pub cleared_all : Whole 64 c len → JudgedTo d.it.graph d.it.placing (take len (payload c)) (Ok tt) → YardCleared a b c t pl
+      cleared_all w j = record {
+        rows = rows;
+        yard = d;
+        len = len;
+        most = w.most;
+        few = omega (arith, w.most, w.limited);
+        read = read;
+        moves = j.moves;
+        resolved = sym j.answer;
       }
 
-      -- it is cleared, and resolved as far as a list goes
-      pub planned_cleared : n₀ ≡ 0 → (r : Resolved) (p : List ℕ) → ResolvedOr d.it.graph d.it.placing (take q (payload c)) o₀ p r
-          → PlannedIs a b c o₀ (record { refusal = record { number = n₀; place = q₀ }; count = r.count }) p
-      planned_cleared y r p t = record { refused = λ h. absurd (h y); small = λ h. absurd (h y); resolved = λ h. go r.over refl; long = t.long }
-        where
-          cleared : resolved_moves d.it.graph d.it.placing (take q (payload c)) ≡ ok j.moves
-          cleared = plan_is ∙ refusal_none n₀ q₀ j.moves y
+  module _ (t : MapTables) (pl : PlacingTables) (y : YardCleared a b c t pl) where
+    -- there is a list
+    pub judged_moves : meaning.plan_moves a b c ≡ ok y.moves
+    judged_moves = plan_on t pl y.rows y.yard y.len y.read ∙ y.resolved
 
-          go : (x : Bool) → r.over ≡ x → Moves a b c o₀ r.count p ⊎ Over a b c r.count
-          go false x = let w = t.whole x in inl (record { moves = w.moves; resolved = plan_on ∙ w.answer; counted = w.counted; laid = w.buffer })
-          go true x = let w = t.part x in inr (record { moves = j.moves; resolved = plan_on ∙ cleared; most = w.most j.moves cleared; over = w.over })
+    unfoldable pub yard_cleared : ClearedOn c t pl.robots pl.starts pl.goals
+    unfolding yard_placement
+    yard_cleared = record {
+      n = t.vertices;
+      rows = y.rows;
+      on = yard_placement a b t pl y.rows y.yard;
+      len = y.len;
+      most = y.most;
+      few = y.few;
+      moves = y.moves;
+      resolved = y.resolved;
+    }
+
+    -- it is resolved as far as a list goes
+    pub planned : (o₀ o : List ℕ) (r : Result ℕ TooManyMoves) (s : Result ℕ Refusal) → ResolvedOr y.yard.it.graph y.yard.it.placing (take y.len (payload c)) o₀ o r
+        → MatchResult r (λ n. s ≡ Ok n) (λ f. s ≡ Err (refusal.Answer TooLong)) → PlannedIs a b c o₀ s o
+    planned o₀ o r s w h = record { resolved = go r s w.either h; long = w.long }
+      where
+        go : (r : Result ℕ TooManyMoves) (s : Result ℕ Refusal)
+            → MatchResult r (ResolvedTo y.yard.it.graph y.yard.it.placing (take y.len (payload c)) o₀ o) (λ _. (n : ℕ) × OverTo y.yard.it.graph y.yard.it.placing (take y.len (payload c)) n)
+            → MatchResult r (λ n. s ≡ Ok n) (λ f. s ≡ Err (refusal.Answer TooLong)) → Resolved a b c o₀ s o
+        go (Ok n) (Ok n') w h =
+            let e : n' ≡ n = cc in
+            record { moves = w.moves; resolved = plan_on t pl y.rows y.yard y.len y.read ∙ w.answer; counted = e ∙ w.counted; laid = w.buffer }
+        go (Ok n) (Err e) w h = cc
+        go (Err f) (Ok n) w h = cc
+        go (Err f) (Err e) w h = let x : e ≡ refusal.Answer TooLong = cc in inr (x, record { moves = y.moves; resolved = judged_moves; over = omega (arith, w.1.over, w.1.most y.moves y.resolved) })

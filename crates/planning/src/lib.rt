@@ -1,13 +1,57 @@
 // A plan with its map and placing, judged and resolved.
 #![tactic(auto)]
 
-pub mod plans;
+ghost use Rattle.std.specs.Prelude.{◌≡◌};
+ghost use Rattle.planning.specs.Planned.{ClearedIs, JudgedIs, PlannedIs};
 
+use answers::Undelivered;
+use checking::check_file;
+use judge::judge_plan;
+use opening::{Yard, read_yard};
+use placing::PlacingTables;
 use refusals::Refusal;
+use resolve::resolve_plan;
 
-// How many moves a plan was resolved into; or why not.
-#[derive(Clone, Copy)]
-pub struct Planned {
-    pub refusal: Refusal,
-    pub count: usize,
+// Reads map, placing and plan in document 01's order of files, and judges the plan: the map and placing of one that is cleared.
+fn read_cleared(map: &[u8], placed: &[u8], plan: &[u8]) -> Result<Yard, Refusal>
+    ensures { ClearedIs map.now placed.now plan.now result }
+{
+    let mut rows = [[0u64; 2]; 128];
+    let yard = read_yard(map, placed, &mut rows)?;
+    let len = check_file(plan, 3, 64).map_err(Refusal::PlanFile)?;
+    let PlacingTables {
+        robots,
+        starts,
+        goals,
+    } = yard.placing;
+    judge_plan(plan, len, &yard.map, &rows, starts, goals, robots as usize)?;
+    Ok(yard)
+}
+
+// Judges a plan with its map and placing.
+pub fn judge_files(map: &[u8], placed: &[u8], plan: &[u8]) -> Result<(), Refusal>
+    ensures { JudgedIs map.now placed.now plan.now result }
+{
+    read_cleared(map, placed, plan)?;
+    Ok(())
+}
+
+// Judges a plan with its map and placing, and resolves one that is cleared: its moves are counted, and laid into the buffer after the two bytes of
+// the count.
+pub fn resolve_files(
+    map: &[u8],
+    placed: &[u8],
+    plan: &[u8],
+    out: &mut [u8],
+) -> Result<usize, Refusal>
+    ensures { PlannedIs map.now placed.now plan.now out.old result out.new }
+{
+    let Yard { map, placing } = read_cleared(map, placed, plan)?;
+    let PlacingTables {
+        robots,
+        starts,
+        goals,
+    } = placing;
+    let too_long = Refusal::Answer(Undelivered::TooLong);
+    resolve_plan(plan, &map, starts, goals, robots as usize, out).map_err(|_| too_long)
 }
