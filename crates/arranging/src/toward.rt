@@ -20,14 +20,14 @@ fn robot_off(x: u8, y: u8) -> u8
     if x == y { 255 } else { y.wrapping_sub(1) }
 }
 
-// The cell of the lowest-numbered robot that is off its target; 0 where there is none.
+// The cell of the lowest-numbered robot that is off its target; 0 where there is none. A fold over a `zip` was tried: twice as slow.
 fn lowest_off(cells: &[u8], goal: &[u8]) -> u8
     ensures { result ≡ lowest_off cells.now goal.now }
 {
-    let lowest = cells
-        .iter()
-        .zip(goal)
-        .fold(255, |best, (x, y)| robot_off(*x, *y).min(best));
+    let mut lowest = 255;
+    for k in (0..cells.len().min(goal.len())).rev() {
+        lowest = robot_off(cells[k], goal[k]).min(lowest);
+    }
     cell_of(Robot(lowest))
 }
 
@@ -52,18 +52,20 @@ pub fn go_toward(
     let mut from = 0;
     for _ in 0..n {
         let q = open_target(cells, goal, from);
-        let open = q < cells.len();
-        let (x, j) = if open {
-            (goal[q], q)
+        if q < cells.len() {
+            let x = goal[q];
+            let i = table.go(x, q);
+            from = i.min(q + 1);
+            count = go(state, count, zone, cells, x, i, q, out);
         } else {
-            (lowest_off(cells, goal), first_empty(cells))
-        };
-        if x == 0 {
-            return count;
+            let x = lowest_off(cells, goal);
+            if x == 0 {
+                return count;
+            }
+            let j = first_empty(cells);
+            from = table.go(x, j);
+            count = go(state, count, zone, cells, x, from, j, out);
         }
-        let i = table.go(x, j);
-        from = i.min(q + 1);
-        count = go(state, count, zone, cells, x, i, j, out);
     }
     count
 }

@@ -1,41 +1,35 @@
 -- The lists as a state has them: each zone's is the order of its arrangement.
-use Rattle.std.specs.Prelude.{◌≡◌, Bool, List, [], ℕ, ◌+◌, ◌-◌, ◌≤◌, ◌<◌, length, get_or, set, take, drop, eqb}
+use Rattle.std.specs.Prelude.{◌≡◌, Bool, List, ℕ, ◌+◌, ◌-◌, ◌≤◌, ◌<◌, length, get_or, set, take, drop, eqb}
 use Rattle.std.proofs.Common.{sym, ap, ◌∙◌, length-drop, length-take-le}
 use Rattle.std.proofs.Math.Bool.{true, false}
 use native.Mathlib.Omega.{arith}
 use Rattle.std.proofs.Math.Decide.{ℕ_discrete}
 use borrow.Rule.Slice.PartMut.{put_mid}
-use Rattle.spec.specs.Layout.{Map, Zone, least_size, zone_at}
+use Rattle.spec.specs.Layout.{Map, least_size, zone_at}
 use Rattle.spec.specs.Arrangement.{order}
 use Rattle.spec.specs.State.{State, arrangement_of}
 use Rattle.spec.specs.Terms.{zone_count, kind_of, size_of, arrangement_in}
 use Rattle.theory.specs.Maps.Cells as maps
 use Rattle.theory.specs.Zones.Arrangements.{order_short}
-use Rattle.motion.specs.declared.State as code
-use Rattle.motion.specs.States.{state_of}
-use Rattle.motion.specs.Tables.{tabled, on_vertices, arrangement_alone}
-use Rattle.spec.specs.Run.{goals_from}
-use Rattle.walking.specs.Alone.{goals_alone}
 use Rattle.motion.specs.Across.{arrangement_length}
 use Rattle.walking.specs.Tables.{vertices_in}
 use Rattle.lineup.specs.Line.{Lined}
 use Rattle.orders.specs.Packed.{holds_order}
-use Rattle.walking.specs.Given.{Given, HasZone, part}
+use Rattle.walking.specs.Given.{Given, HasZone}
 use Rattle.rosters.specs.Lists.{Rewritten, wider}
 use Rattle.testing.specs.Held.{list_in, Held, Changed, changed_rest, rest_of, size_is, list_here, list_away, still_few}
 use Rattle.judge.specs.Making.{Listed}
 
 -- ---- one zone's list
 
-module _ (first size listed : List ℕ) (z : ℕ) (has : HasZone first size listed z) (s : State) (n : ℕ) (rs ps : List ℕ)
-    (lined : Lined (arrangement_of s (take (get_or first z 0 + get_or size z 0 - get_or first z 0) (drop (get_or first z 0) listed))) n rs ps) where
+module _ (first size listed : List ℕ) (z : ℕ) (has : HasZone first size listed z) (s : State) (n : ℕ) (vs rs ps : List ℕ) (mine : vs ≡ vertices_in first size listed z) (lined : Lined (arrangement_of s vs) n rs ps) where
   -- the zone's robots in order, by the tables
   abbrev robots : List ℕ
   robots = order (arrangement_of s (vertices_in first size listed z))
 
   -- what the code collected
-  lined_order : take n rs ≡ robots
-  lined_order = lined.robots ∙ ap (λ (vs : List ℕ). order (arrangement_of s vs)) (part (get_or first z 0) (get_or size z 0) listed)
+  pub lined_order : take n rs ≡ robots
+  lined_order = lined.robots ∙ ap (λ (vs : List ℕ). order (arrangement_of s vs)) mine
 
   -- the zone's size, by the tables
   long : length (vertices_in first size listed z) ≡ get_or size z 0
@@ -43,9 +37,7 @@ module _ (first size listed : List ℕ) (z : ℕ) (has : HasZone first size list
 
   -- there are no more than places
   lined_few : n ≤ get_or size z 0
-  lined_few =
-      let vs : List ℕ = take (get_or first z 0 + get_or size z 0 - get_or first z 0) (drop (get_or first z 0) listed) in
-      omega (arith, lined.short, arrangement_length s vs, ap length (part (get_or first z 0) (get_or size z 0) listed), long)
+  lined_few = omega (arith, lined.short, arrangement_length s vs, ap length mine, long)
 
   -- nor than 128
   pub lined_small : n ≤ 128
@@ -128,23 +120,3 @@ filled_all m first counts cells s i h f = record {
   stands = λ z b. holds_order (kind_of m z) (list_in first counts cells z) (arrangement_in m s z) (sym (f.lists z (omega arith) b));
   few = f.few;
 }
-
--- ---- the state's table of robots by vertex
-
--- it shows the arrangements of the state
-arranged_by : (s : code.State) (on vs : List ℕ) → on ≡ (state_of s).robots → arrangement_of (on_vertices on) vs ≡ arrangement_of (state_of s) vs
-arranged_by s on vs e = ap (λ (l : List ℕ). arrangement_of (on_vertices l) vs) e ∙ arrangement_alone (state_of s).robots (state_of s).vertices vs
-
--- so the lists filled by it are the state's
-pub filled_by : (m : Map) (first counts cells : List ℕ) (s : code.State) (on : List ℕ) (i : ℕ) → on ≡ (state_of s).robots
-    → Filled m first counts cells (on_vertices on) i → Filled m first counts cells (state_of s) i
-filled_by m first counts cells s on i e f = record {
-  lists = λ y l b. f.lists y l b ∙ ap order (arranged_by s on (zone_at m y).vertices e);
-  few = f.few;
-}
-
--- and the goals tested by it
-pub goals_by : (zs : List Zone) (s : State) (g : code.State) (on : List ℕ) → on ≡ (state_of g).robots → goals_from 0 zs s (on_vertices on) ≡ goals_from 0 zs s (state_of g)
-goals_by zs s g on e =
-    sym (goals_alone 0 zs s.robots s.vertices on []) ∙ goals_alone 0 zs s.robots s.vertices on (state_of g).vertices
-    ∙ ap (λ (l : List ℕ). goals_from 0 zs s (tabled l (state_of g).vertices)) e

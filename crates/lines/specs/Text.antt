@@ -1,7 +1,7 @@
 -- Numbers as text, and text that is put into a buffer piece by piece.
-use Rattle.std.specs.Prelude.{ℕ, zero, suc, ◌+◌, ◌*◌, ◌/◌, ◌%◌, ◌≤◌, ◌<◌, ◌≡◌, refl, Bool, true, false, List, [], ◌∷◌, ◌++◌, length, get_or, set, drop, take, ltb}
-use Rattle.std.proofs.Common.{sym, ap, ◌∙◌, length-append, take_at, take_all, take-suc, add-one, lt-ltb, le-ltb, ltb-true, ltb-false}
-use Rattle.std.proofs.lemmas.List.Edits.{sets, sets-eq}
+use Rattle.std.specs.Prelude.{ℕ, zero, suc, ◌+◌, ◌*◌, ◌/◌, ◌%◌, ◌≤◌, ◌<◌, ◌≡◌, refl, Bool, true, false, List, [], ◌∷◌, ◌++◌, length, get_or, set, take, ltb}
+use Rattle.std.proofs.Common.{sym, ap, ◌∙◌, length-append, take_all, take-suc, add-one, lt-ltb, le-ltb, ltb-true, ltb-false}
+use Rattle.std.proofs.lemmas.List.Edits.{sets}
 use Rattle.std.proofs.Math.Seq.{length-sets}
 use native.Mathlib.Omega.{arith}
 
@@ -137,9 +137,3 @@ put_high t u v at r n h p e = put_as (sym (decimal_more n h)) (put_then p (put_o
 -- a number of 32 bits has at most ten digits
 pub put_ten : {t u : List ℕ} {at n r : ℕ} → Put t at (decimal n) u r → n < 4294967296 → r ≤ at + 10
 put_ten {t} {u} {at} {n} {r} p h = omega (arith, p.next, decimal_few 9 n (unfold power in omega arith))
-
--- what a buffer that is long enough begins with then
-pub put_whole : {t u bs : List ℕ} {r : ℕ} → Put t 0 bs u r → r ≤ length t → take r u ≡ bs
-put_whole {t} {u} {bs} {r} p h =
-    let n : r ≡ length bs = omega (arith, p.next) in
-    ap (take r) (p.bytes ∙ sets-eq bs t 0 (omega arith)) ∙ take_at bs (drop (0 + length bs) t) r (sym n)

@@ -3,3 +3,4 @@ pub mod Fault
 pub mod Testing
 pub mod Held
 pub mod Steps
+pub mod OnMap

@@ -9,7 +9,10 @@ mod tests;
 
 ghost use Rattle.std.specs.Prelude.{◌≡◌};
 ghost use Rattle.testing.specs.Fault.{refusal_of};
+ghost use Rattle.testing.specs.OnMap.{FitsOn, SpotOf};
 
+use layout::MapTables;
+use numbering::{Vertex, Zone, ZoneKind};
 pub use steps::test_step;
 
 // Which of document 01's refusals of a step.
@@ -63,4 +66,33 @@ pub struct Step {
 pub struct Lists {
     pub cells: [u8; 128],
     pub counts: [u8; 64],
+}
+
+// A vertex's place in its zone, with the zone's kind and size, the cell from which on its list stands, and how many robots it has.
+#[derive(Clone, Copy)]
+pub struct Spot {
+    pub zone: Zone,
+    pub kind: ZoneKind,
+    pub first: usize,
+    pub size: usize,
+    pub count: usize,
+    pub place: usize,
+}
+
+impl Lists {
+    // Where vertex v stands.
+    pub fn spot(&self, map: &MapTables, v: Vertex) -> Spot
+        requires { FitsOn map.now self.now v.0 }
+        ensures { SpotOf map.now self.now v.0 result }
+    {
+        let zone = map.zone_of(v);
+        Spot {
+            zone,
+            kind: map.kind_of(zone),
+            first: map.first_of(zone),
+            size: map.size_of(zone),
+            count: self.counts[zone.0 as usize] as usize,
+            place: map.place_of(v),
+        }
+    }
 }

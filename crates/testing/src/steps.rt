@@ -1,13 +1,18 @@
 // The tests of a step on the lists: every check in document 01's order, and no move is made.
-ghost use Rattle.std.specs.Prelude.{◌≡◌, ◌+◌, ◌*◌, ◌/◌, ◌≤◌, ◌<◌, length, get_or, take};
+ghost use Rattle.std.specs.Prelude.{◌≡◌, ◌+◌, ◌*◌, ◌/◌, ◌≤◌, ◌<◌, length, take};
+ghost use Rattle.numbering.specs.Kind.{number_of};
 ghost use Rattle.orders.specs.Orders.{leave_test};
-ghost use Rattle.walking.specs.Given.{kind_at};
+ghost use Rattle.walking.specs.OnMap.{kind_on, place_on};
 ghost use Rattle.exits.specs.Leaving.{LeaveFound};
-ghost use Rattle.testing.specs.Held.{list_in};
-ghost use Rattle.testing.specs.Steps.{Ready, Fits, extra_on, EntryTested, StepTested};
+ghost use Rattle.testing.specs.Steps.{extra_on, EntryTested};
+ghost use Rattle.testing.specs.OnMap.{size_on, count_on, list_on, FitsOn, ReadyOn, StepTestedOn};
 
 use crate::tests::{are_numbered, is_crossing};
-use crate::{Lists, Step, StepFault};
+use crate::{Lists, Spot, Step, StepFault};
+use configurations::entering::{can_fill, entry_at};
+use exits::leaving::leave_index;
+use layout::MapTables;
+use numbering::{Robot, Vertex, ZoneKind};
 
 // An entry that passed its tests: the index at which the robot comes into the list, 0 where it fills a clique, and how many bytes the follow list has.
 #[derive(Clone, Copy)]
@@ -17,54 +22,46 @@ struct Entry {
 }
 
 // Where robot r, that is to leave its zone at vertex u, stands in the zone's list, if it can.
-fn leave_at<'a>(
-    kind: &'a [u8; 64],
-    first: &'a [u8; 64],
-    size: &'a [u8; 64],
-    zone: &'a [u8; 128],
-    place: &'a [u8; 128],
-    lists: &Lists,
-    r: u8,
-    u: u8,
-) -> Option<usize>
-    requires { Fits first.now size.now zone.now place.now lists.now.counts lists.now.cells u }
-    ensures { LeaveFound (leave_test (kind_at kind.now zone.now u) (get_or size.now (get_or zone.now u 0) 0) (list_in first.now lists.now.counts lists.now.cells (get_or zone.now u 0)) r (get_or place.now u 0)) r (get_or lists.now.counts (get_or zone.now u 0) 0) (list_in first.now lists.now.counts lists.now.cells (get_or zone.now u 0)) result }
+fn leave_at(map: &MapTables, lists: &Lists, r: Robot, u: Vertex) -> Option<usize>
+    requires { FitsOn map.now lists.now u.0 }
+    ensures { LeaveFound (leave_test (kind_on map.now u.0) (size_on map.now u.0) (list_on map.now lists.now u.0) r.0 (place_on map.now u.0)) r.0 (count_on map.now lists.now u.0) (list_on map.now lists.now u.0) result }
 {
-    let z = zone[u as usize] as usize;
-    let a = first[z] as usize;
-    let n = lists.counts[z] as usize;
-    let m = size[z] as usize;
-    let j = place[u as usize] as usize;
-    exits::leaving::leave_index(kind[z], &lists.cells[a..], n, m, r, j)
+    let at = lists.spot(map, u);
+    let part = &lists.cells[at.first..];
+    leave_index(at.kind, part, at.count, at.size, r, at.place)
 }
 
 // How many bytes the follow list has of a step into a zone of `size` places with n robots.
-fn list_length(kind: u8, n: usize, size: usize) -> usize
+fn list_length(kind: ZoneKind, n: usize, size: usize) -> usize
     requires { n < size }
-    ensures { result ≡ extra_on kind size n }
+    ensures { result ≡ extra_on (number_of kind) size n }
 {
-    if kind == 3 && n + 1 == size {
+    if kind == ZoneKind::Clique && n + 1 == size {
         return size;
     }
     0
 }
 
-// Robot r's entry at place j of a zone of `size` places with the first n of the part inside: "full target, follow list present, 39".
+// Robot r's entry at a spot of a zone whose list is the first of the part: "full target, follow list present, 39".
 fn test_entry(
     file: &[u8],
     len: usize,
     o: usize,
-    kind: u8,
+    at: Spot,
     part: &[u8],
-    n: usize,
-    size: usize,
-    r: u8,
-    j: usize,
+    r: Robot,
     behind: u8,
 ) -> Result<Entry, StepFault>
-    requires { (len ≤ length file.now / 512 * 504) × (o + 4 ≤ len) × (n ≤ size) × (size ≤ length part.now) × (size ≤ 128) × (j < size) }
-    ensures { EntryTested file.now len o kind n (take n part.now) size r j behind result }
+    requires { (len ≤ length file.now / 512 * 504) × (o + 4 ≤ len) × (at.count ≤ at.size) × (at.size ≤ length part.now) × (at.size ≤ 128) × (at.place < at.size) }
+    ensures { EntryTested file.now len o (number_of at.kind) at.count (take at.count part.now) at.size r.0 at.place behind result }
 {
+    let Spot {
+        kind,
+        size,
+        count: n,
+        place: j,
+        ..
+    } = at;
     if n == size {
         return Err(StepFault::Enter);
     }
@@ -74,92 +71,64 @@ fn test_entry(
         return Err(StepFault::Short);
     }
     if list == 0 {
-        let entry = configurations::entering::entry_at(kind, part, n, size, j, behind);
-        let into = entry.ok_or(StepFault::Enter)?;
+        let into = entry_at(kind, part, n, size, j, behind).ok_or(StepFault::Enter)?;
         return Ok(Entry { into, list });
     }
-    if configurations::entering::can_fill(file, o + 4, part, n, size, r, j, behind) {
+    if can_fill(file, o + 4, part, n, size, r, j, behind) {
         return Ok(Entry { into: 0, list });
     }
     Err(StepFault::Enter)
 }
 
 // Robot r's entry at vertex v.
-fn test_entry_at<'a>(
+fn test_entry_at(
     file: &[u8],
     len: usize,
     o: usize,
-    kind: &'a [u8; 64],
-    first: &'a [u8; 64],
-    size: &'a [u8; 64],
-    zone: &'a [u8; 128],
-    place: &'a [u8; 128],
+    map: &MapTables,
     lists: &Lists,
-    r: u8,
-    v: u8,
+    r: Robot,
+    v: Vertex,
     behind: u8,
 ) -> Result<Entry, StepFault>
     requires len_in_bounds { (len ≤ length file.now / 512 * 504) × (o + 4 ≤ len) }
-    requires fits { Fits first.now size.now zone.now place.now lists.now.counts lists.now.cells v }
-    ensures { EntryTested file.now len o (kind_at kind.now zone.now v) (get_or lists.now.counts (get_or zone.now v 0) 0) (list_in first.now lists.now.counts lists.now.cells (get_or zone.now v 0)) (get_or size.now (get_or zone.now v 0) 0) r (get_or place.now v 0) behind result }
+    requires fits { FitsOn map.now lists.now v.0 }
+    ensures { EntryTested file.now len o (kind_on map.now v.0) (count_on map.now lists.now v.0) (list_on map.now lists.now v.0) (size_on map.now v.0) r.0 (place_on map.now v.0) behind result }
 {
-    let z = zone[v as usize] as usize;
-    let a = first[z] as usize;
-    let n = lists.counts[z] as usize;
-    let m = size[z] as usize;
-    let j = place[v as usize] as usize;
-    test_entry(file, len, o, kind[z], &lists.cells[a..], n, m, r, j, behind)
+    let at = lists.spot(map, v);
+    test_entry(file, len, o, at, &lists.cells[at.first..], r, behind)
 }
 
-// The tests of the step at offset o of the payload, for k robots on a map of n vertices.
-pub fn test_step<'a>(
+// The tests of the step at offset o of the payload, for k robots.
+pub fn test_step(
     file: &[u8],
     len: usize,
     o: usize,
-    kind: &'a [u8; 64],
-    first: &'a [u8; 64],
-    size: &'a [u8; 64],
-    listed: &'a [u8],
-    zone: &'a [u8; 128],
-    place: &'a [u8; 128],
+    map: &MapTables,
     rows: &[[u64; 2]; 128],
-    n: usize,
     k: usize,
     lists: &Lists,
 ) -> Result<Step, StepFault>
     requires len_in_bounds { (len ≤ length file.now / 512 * 504) × (o ≤ len) }
-    requires ready { Ready n k kind.now first.now size.now listed.now zone.now place.now rows.now lists.now.counts lists.now.cells }
-    ensures { StepTested file.now len o n k kind.now first.now size.now listed.now zone.now place.now rows.now lists.now.counts lists.now.cells result }
+    requires ready { ReadyOn map.now k rows.now lists.now }
+    ensures { StepTestedOn file.now len o map.now k rows.now lists.now result }
 {
     if len - o < 4 {
         return Err(StepFault::Short);
     }
     let bytes = wire::payload_four(file, o);
-    let r = bytes.first;
-    let u = bytes.second;
-    let v = bytes.third;
-    if !are_numbered(n, k, r, u, v) {
+    let r = Robot(bytes.first);
+    let u = Vertex(bytes.second);
+    let v = Vertex(bytes.third);
+    if !are_numbered(map, k, r, u, v) {
         return Err(StepFault::Number);
     }
-    if !is_crossing(zone, rows, u, v) {
+    if !is_crossing(map, rows, u, v) {
         return Err(StepFault::Edge);
     }
-    let stood = leave_at(kind, first, size, zone, place, lists, r, u);
+    let stood = leave_at(map, lists, r, u);
     let out = stood.ok_or(StepFault::Leave)?;
-    let Entry { into, list } = test_entry_at(
-        file,
-        len,
-        o,
-        kind,
-        first,
-        size,
-        zone,
-        place,
-        lists,
-        r,
-        v,
-        bytes.fourth,
-    )?;
+    let Entry { into, list } = test_entry_at(file, len, o, map, lists, r, v, bytes.fourth)?;
     Ok(Step {
         bytes,
         out,

@@ -1,22 +1,24 @@
 // The tests of a step that read no list: "In a step: four bytes, 36, 37, 38, full target, follow list present, 39."
-ghost use Rattle.std.specs.Prelude.{◌≡◌, ℕ, ◌<◌, List};
+ghost use Rattle.std.specs.Prelude.{◌≡◌, ℕ, ◌<◌};
 ghost use Rattle.spec.specs.Layout.{Map};
 ghost use Rattle.walking.specs.Tests.{numbered, crosses};
-ghost use Rattle.walking.specs.Given.{Given};
+ghost use Rattle.walking.specs.OnMap.{GivenOn};
 
-use numbering::Vertex;
+use layout::MapTables;
+use numbering::{Robot, Vertex};
 
-// Are the robot and the vertices of a step below k and n?
-pub fn are_numbered(n: usize, k: usize, r: u8, u: u8, v: u8) -> bool
-    ensures { result ≡ numbered n k r u v }
+// Are the robot and the vertices of a step below k and the map's number of vertices?
+pub fn are_numbered(map: &MapTables, k: usize, r: Robot, u: Vertex, v: Vertex) -> bool
+    ensures { result ≡ numbered map.now.vertices k r.0 u.0 v.0 }
 {
-    (r as usize) < k && (u as usize) < n && (v as usize) < n
+    let n = map.vertices();
+    (r.0 as usize) < k && (u.0 as usize) < n && (v.0 as usize) < n
 }
 
 // Does an edge lead from u to v, in another zone?
-pub fn is_crossing(zone: &[u8; 128], rows: &[[u64; 2]; 128], u: u8, v: u8) -> bool
-    requires { (u < 128) × (v < 128) }
-    ensures { (m : Map) (n k : ℕ) (kind first size listed place : List ℕ) → Given m n k kind first size listed zone.now place rows.now → u < n → v < n → result ≡ crosses m u v }
+pub fn is_crossing(map: &MapTables, rows: &[[u64; 2]; 128], u: Vertex, v: Vertex) -> bool
+    requires { (u.0 < 128) × (v.0 < 128) }
+    ensures { (m : Map) (k : ℕ) → GivenOn m k map.now rows.now → u.0 < map.now.vertices → v.0 < map.now.vertices → result ≡ crosses m u.0 v.0 }
 {
-    adjacency::joined(rows, Vertex(u), Vertex(v)) && zone[u as usize] != zone[v as usize]
+    adjacency::joined(rows, u, v) && map.zone_of(u) != map.zone_of(v)
 }

@@ -1,13 +1,25 @@
-use Rattle.std.proofs.Common.{ap, ◌∙◌, rules, tests}
-use Rattle.std.proofs.lemmas.Iterator.{YieldsList-from_slice, YieldsList-from_zip}
-use Rattle.std.proofs.lemmas.Iterator.Consumers.{fold_from_yields_List}
-use Rattle.spec.specs.State.{cell_of}
-use Rattle.arranging.specs.Toward.{lower_off, lowest_seen}
+use Rattle.std.proofs.Common.{◌≡◌, ℕ, ◌+◌, ◌-◌, min, drop, sym, refl, ap, ◌∙◌, arith, rules}
+use Rattle.spec.specs.Clique.{lowest_off}
+use Rattle.theory.specs.Maps.Cells.{cell_none}
+use Rattle.arranging.specs.Toward.{off_earlier, off_end}
 use Rattle.arranging.proofs.toward.lowest_off.Goals as goal
+
+pub loop-k-init : goal.loop-k-init
+loop-k-init c = record { fits = omega arith; lowest = cell_none refl ∙ off_end c.args.cells.now c.args.goal.now c.min-k.result (omega (arith, c.min-k.ensures)) }
+
+pub loop-k-preserved : goal.loop-k-preserved
+loop-k-preserved c =
+    let a = c.args.cells.now in
+    let g = c.args.goal.now in
+    let o = c.loop-k in
+    let d : o.k - 1 + 1 ≡ o.k = omega arith in
+    record {
+      fits = omega (arith, o.invariant.fits);
+      lowest = off_earlier a g (o.k - 1) o.lowest _ (omega (arith, c.min-k.ensures)) (search rules) o.invariant.fits
+          (o.invariant.lowest ∙ ap (λ (i : ℕ). lowest_off (drop i a) (drop i g)) (sym d)) (search rules ∙ ap (λ (r : ℕ). min r o.lowest) c.robot_off.ensures);
+    }
 
 pub returns : goal.returns
 returns c =
-    let a = c.args.cells.now in
-    let g = c.args.goal.now in
-    let f = fold_from_yields_List _ lower_off 255 c.fold-lowest.result c.fold-lowest.ensures.ran (YieldsList-from_zip (YieldsList-from_slice a cc) (YieldsList-from_slice g cc)) (λ s x b q k. search (rules, tests)) in
-    c.cell_of.ensures ∙ ap cell_of f ∙ lowest_seen a g (λ k. search rules)
+    let e : c.loop-k.k ≡ 0 = omega arith in
+    c.cell_of.ensures ∙ c.loop-k.invariant.lowest ∙ ap (λ (i : ℕ). lowest_off (drop i c.args.cells.now) (drop i c.args.goal.now)) e

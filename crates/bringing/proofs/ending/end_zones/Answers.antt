@@ -19,7 +19,7 @@ end_zone-made-requires c =
     let l = c.loop-z in
     let b = c.requires.on in
     let g = l.invariant b.map b.n b.k b.zone b.place b.rows b.given b.count b.consistent c.requires.pass in
-    let t : l.z < zone_count b.map = rw b.count c.loop-z-test.true in record {
+    let t : l.z < zone_count b.map = rw (b.count, ← c.zones-z-end.ensures) c.loop-z-test.true in record {
       has_zone = has_zone b.map b.n b.k a.map.now.kind a.map.now.first a.map.now.size a.map.now.listed b.zone b.place b.rows b.given l.z t;
       z_value = ends_is b.map b.n b.k a.map.now.kind a.map.now.first a.map.now.size a.map.now.listed b.zone b.place b.rows b.given l.z t l.state a.goals.now
           ∙ ending_can b.map b.given.accepted b.k b.given.few a.state.now a.goals.now b.consistent c.requires.pass (world a.state.now a.count a.out.now) l.z (world l.state l.made l.out) g t;
@@ -32,7 +32,7 @@ loop-z-preserved c =
     let a = c.args in
     let l = c.loop-z in
     λ m n k zone place rows d e h p.
-    let t : l.z < zone_count m = rw e c.loop-z-test.true in
+    let t : l.z < zone_count m = rw (e, ← c.zones-z-end.ensures) c.loop-z-test.true in
     ending_next m d.accepted k d.few a.state.now a.goals.now h p (world a.state.now a.count a.out.now) l.z (world l.state l.made l.out) (l.invariant m n k zone place rows d e h p) _ t
     (c.end_zone-made.ensures ∙ ap (made_all (world l.state l.made l.out)) (end_moves_is m n k a.map.now.kind a.map.now.first a.map.now.size a.map.now.listed zone place rows d l.z t l.state a.goals.now))
 
@@ -41,4 +41,4 @@ returns c =
     λ m n k zone place rows d e h p.
     let a = c.args in
     let l = c.loop-z in
-    ending_end m d.accepted k d.few a.state.now a.goals.now h p (world a.state.now a.count a.out.now) l.z (world l.state l.made l.out) (l.invariant m n k zone place rows d e h p) (rw e c.loop-z-test.false)
+    ending_end m d.accepted k d.few a.state.now a.goals.now h p (world a.state.now a.count a.out.now) l.z (world l.state l.made l.out) (l.invariant m n k zone place rows d e h p) (rw (e, ← c.zones-z-end.ensures) c.loop-z-test.false)

@@ -37,8 +37,8 @@ returns-then-n-eq0 c =
     let l = looked a.map.now a.v.0 _ _ _ _ (c.zone_of-z.ensures.below c.requires.has_vertex.below) c.kind_of-kind.ensures c.place_of-j.ensures c.vertices_of-zone.ensures in
     c.enter_room.ensures ∙ enter_looked (world a.state.now a.count a.out.now) a.state.now a.map.now a.v.0 _ _ _ _ l a.behind [] _ (ap (λ (y : ℕ). held_part a.file.now (a.from + y) a.from y) (sym c.if-n-eq0.true))
 
-pub slice_bounds-enter_in-end-2 : goal.slice_bounds-enter_in-end-2
-slice_bounds-enter_in-end-2 c =
+pub slice_bounds-enter_in-end : goal.slice_bounds-enter_in-end
+slice_bounds-enter_in-end c =
     sym (cells_length c.args.n c.requires.n_bound.0)
 
 pub enter_in-requires : goal.enter_in-requires

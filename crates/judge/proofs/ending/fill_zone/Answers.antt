@@ -3,7 +3,6 @@ use mathlib.Core.Path.{◌≡◌, sym}
 use Prim.Native.Nat.{◌≤◌}
 use lib.ListN.{length}
 use lib.Seq.{length-take-le}
-use Rattle.motion.specs.Tables.{on_vertices}
 use Rattle.judge.specs.Filling.{lined_small, lined_fits, filled_zone}
 use Rattle.judge.proofs.ending.fill_zone.Goals as goal
 
@@ -11,14 +10,14 @@ pub slice_bounds-robots-end : goal.slice_bounds-robots-end
 slice_bounds-robots-end c =
     let a = c.args in
     let l = c.line_up-n in
-    let x : l.result ≤ 128 = lined_small a.first.now a.size.now a.listed.now a.z c.requires.0 (on_vertices a.on.now) l.result l.new.line l.new.places l.ensures in
+    let x : l.result ≤ 128 = lined_small a.map.now.first a.map.now.size a.map.now.listed a.z.0 c.requires.0 a.state.now l.result _ l.new.line l.new.places c.vertices_of.ensures l.ensures in
     search rules
 
 pub slice_bounds-store-end-2 : goal.slice_bounds-store-end-2
 slice_bounds-store-end-2 c =
     let a = c.args in
     let l = c.line_up-n in
-    let x : l.result ≤ 128 = lined_small a.first.now a.size.now a.listed.now a.z c.requires.0 (on_vertices a.on.now) l.result l.new.line l.new.places l.ensures in
+    let x : l.result ≤ 128 = lined_small a.map.now.first a.map.now.size a.map.now.listed a.z.0 c.requires.0 a.state.now l.result _ l.new.line l.new.places c.vertices_of.ensures l.ensures in
     let y : l.result ≤ length l.new.line = search rules in
     sym (length-take-le l.result l.new.line y)
 
@@ -26,23 +25,24 @@ pub store-requires : goal.store-requires
 store-requires c =
     let a = c.args in
     let l = c.line_up-n in
-    let x : l.result ≤ 128 = lined_small a.first.now a.size.now a.listed.now a.z c.requires.0 (on_vertices a.on.now) l.result l.new.line l.new.places l.ensures in
+    let x : l.result ≤ 128 = lined_small a.map.now.first a.map.now.size a.map.now.listed a.z.0 c.requires.0 a.state.now l.result _ l.new.line l.new.places c.vertices_of.ensures l.ensures in
     let y : l.result ≤ length l.new.line = search rules in
     let row : length a.lists.now.cells ≡ 128 = search rules in
-    lined_fits a.first.now a.size.now a.listed.now a.z c.requires.0 (on_vertices a.on.now) l.result l.new.line l.new.places l.ensures y a.lists.now.cells c.requires.1 _ row
+    rw c.first_of-a.ensures (lined_fits a.map.now.first a.map.now.size a.map.now.listed a.z.0 c.requires.0 a.state.now l.result _ l.new.line l.new.places c.vertices_of.ensures l.ensures y a.lists.now.cells c.requires.1 _ row)
 
 pub overflow_cast-lists : goal.overflow_cast-lists
 overflow_cast-lists c =
     let a = c.args in
     let l = c.line_up-n in
-    let x : l.result ≤ 128 = lined_small a.first.now a.size.now a.listed.now a.z c.requires.0 (on_vertices a.on.now) l.result l.new.line l.new.places l.ensures in
+    let x : l.result ≤ 128 = lined_small a.map.now.first a.map.now.size a.map.now.listed a.z.0 c.requires.0 a.state.now l.result _ l.new.line l.new.places c.vertices_of.ensures l.ensures in
     search rules
 
 pub returns : goal.returns
 returns c =
     let a = c.args in
     let l = c.line_up-n in
-    let x : l.result ≤ 128 = lined_small a.first.now a.size.now a.listed.now a.z c.requires.0 (on_vertices a.on.now) l.result l.new.line l.new.places l.ensures in
+    let x : l.result ≤ 128 = lined_small a.map.now.first a.map.now.size a.map.now.listed a.z.0 c.requires.0 a.state.now l.result _ l.new.line l.new.places c.vertices_of.ensures l.ensures in
     let y : l.result ≤ length l.new.line = search rules in
     let row : length a.lists.now.cells ≡ 128 = search rules in
-    filled_zone a.first.now a.size.now a.listed.now a.z c.requires.0 (on_vertices a.on.now) l.result l.new.line l.new.places l.ensures y a.lists.now.cells c.requires.1 _ row a.lists.now.counts c.store.new.part c.store.ensures
+    let r = rw c.first_of-a.ensures at c.store.ensures in
+    rw c.first_of-a.ensures (filled_zone a.map.now.first a.map.now.size a.map.now.listed a.z.0 c.requires.0 a.state.now l.result _ l.new.line l.new.places c.vertices_of.ensures l.ensures y a.lists.now.cells c.requires.1 _ row a.lists.now.counts c.store.new.part r)

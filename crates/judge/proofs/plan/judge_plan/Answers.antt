@@ -1,6 +1,4 @@
-use Rattle.theory.specs.Basics.Lists.{get_d_uniform}
-use mir.Syntax.{w8}
-use borrow.Kind.Array.{e_int, good_length}
+use borrow.Author.Rules.{rules}
 use Rattle.std.proofs.lemmas.Result.{err_from_is_err_and}
 use Rattle.std.specs.Prelude.{Ok, Err}
 use Rattle.testing.specs.declared.PlanFault.TheVariants as plan
@@ -10,7 +8,7 @@ use Rattle.spec.specs.State as meaning
 use lib.ListN.{length}
 use Prim.Native.Nat.{◌≤◌}
 use native.Mathlib.Omega.{arith}
-use mathlib.Core.Path.{◌≡◌, refl, sym, ap, ◌∙◌}
+use mathlib.Core.Path.{◌≡◌, sym, ap, ◌∙◌}
 use Rattle.testing.specs.Steps.{has_list}
 use Rattle.judge.specs.Judging.{judged_none, judged_refused, judged_surplus, judged_goals}
 use Rattle.judge.proofs.plan.judge_plan.Goals as goal
@@ -18,71 +16,72 @@ use Rattle.judge.proofs.plan.judge_plan.Goals as goal
 pub returns-then-len-lt2 : goal.returns-then-len-lt2
 returns-then-len-lt2 c = λ m pl d e pd es eg. judged_none c.args.file.now c.args.len c.requires.len_in_bounds.0 c.if-len-lt2.true
 
-pub fill_lists-requires : goal.fill_lists-requires
-fill_lists-requires c =
+pub lists_of-lists-requires : goal.lists_of-lists-requires
+lists_of-lists-requires c =
     let a = c.args in
+    let t = a.map.now in
     let b = c.requires.placement in
-    (λ z h. has_zone b.map a.n a.k a.kind.now a.first.now a.size.now a.listed.now a.zone.now a.place.now a.rows.now b.given z (rw b.count h), sym c.requires.len_in_bounds.1, refl, λ z. get_d_uniform 64 z 0)
+    (λ z h. has_zone b.map t.vertices a.k t.kind t.first t.size t.listed t.zone t.place a.rows.now b.given z (rw b.count h), c.requires.len_in_bounds.1)
 
 pub walk-requires-clause-ready : goal.walk-requires-clause-ready
 walk-requires-clause-ready c =
     let a = c.args in
+    let t = a.map.now in
     let b = c.requires.placement in
-    let long : length a.starts ≡ 64 = good_length (e_int w8) 64 a.starts _ c.well_formed.1.1.1.1.1.1.1.1.1.1.1.0 in
+    let long : length a.starts ≡ 64 = search rules in
     let hc = start_consistent b.map b.given.accepted b.placing b.placed a.k a.starts _ (omega (arith, long, b.given.few)) b.on_starts c.standing-s.ensures in
-    record { map = b.map; given = b.given; state = _; consistent = hc; held = c.fill_lists.ensures.2 b.map a.n a.k a.kind.now a.zone.now a.place.now a.rows.now b.given b.count hc; room = c.fill_lists.ensures.0; many = c.fill_lists.ensures.1 }
+    record { map = b.map; given = b.given; state = _; consistent = hc; held = c.lists_of-lists.ensures.2 b.map a.k a.rows.now b.given b.count hc; room = c.lists_of-lists.ensures.0; many = c.lists_of-lists.ensures.1 }
 
 pub returns-in_err-next : goal.returns-in_err-next
 returns-in_err-next c =
     let a = c.args in
-    let long : length a.starts ≡ 64 = good_length (e_int w8) 64 a.starts _ c.well_formed.1.1.1.1.1.1.1.1.1.1.1.0 in
+    let long : length a.starts ≡ 64 = search rules in
     let p = err_from_is_err_and c.from_residual.result c.from_residual.ensures.1 in
     rw (p.1, p.2) (λ m pl d e pd es eg.
     let l : a.k ≤ length a.starts = omega (arith, long, d.few) in
     let hc = start_consistent m d.accepted pl pd a.k a.starts _ l es c.standing-s.ensures in
-    let held = c.fill_lists.ensures.2 m a.n a.k a.kind.now a.zone.now a.place.now a.rows.now d e hc in
+    let held = c.lists_of-lists.ensures.2 m a.k a.rows.now d e hc in
     judged_refused a.file.now a.len c.requires.len_in_bounds.0 a.starts c.if-len-lt2.false c.payload_word-count.ensures.0 l es c.standing-s.ensures (c.in_err-next.ensures.2 m d _ hc held))
 
 pub returns-then-next-len : goal.returns-then-next-len
 returns-then-next-len c =
     λ m pl d e pd es eg.
     let a = c.args in
-    let long : length a.starts ≡ 64 = good_length (e_int w8) 64 a.starts _ c.well_formed.1.1.1.1.1.1.1.1.1.1.1.0 in
+    let long : length a.starts ≡ 64 = search rules in
     let l : a.k ≤ length a.starts = omega (arith, long, d.few) in
     let hc = start_consistent m d.accepted pl pd a.k a.starts _ l es c.standing-s.ensures in
-    let held = c.fill_lists.ensures.2 m a.n a.k a.kind.now a.zone.now a.place.now a.rows.now d e hc in
+    let held = c.lists_of-lists.ensures.2 m a.k a.rows.now d e hc in
     judged_surplus a.file.now a.len c.requires.len_in_bounds.0 a.starts c.if-len-lt2.false c.payload_word-count.ensures.0 l es c.standing-s.ensures (c.in_ok-next.ensures.2 m d _ hc held) c.if-next-len.true
 
 pub off_zone-requires : goal.off_zone-requires
 off_zone-requires c =
     let a = c.args in
+    let t = a.map.now in
     let b = c.requires.placement in
-    let long : length a.starts ≡ 64 = good_length (e_int w8) 64 a.starts _ c.well_formed.1.1.1.1.1.1.1.1.1.1.1.0 in
+    let long : length a.starts ≡ 64 = search rules in
     let hc = start_consistent b.map b.given.accepted b.placing b.placed a.k a.starts _ (omega (arith, long, b.given.few)) b.on_starts c.standing-s.ensures in
-    let held = c.fill_lists.ensures.2 b.map a.n a.k a.kind.now a.zone.now a.place.now a.rows.now b.given b.count hc in
-    let x = c.walk.ensures.2 b.map b.given _ hc held in (
-      λ z h. has_zone b.map a.n a.k a.kind.now a.first.now a.size.now a.listed.now a.zone.now a.place.now a.rows.now b.given z (rw b.count h),
-      λ z h. has_list b.map a.n a.k a.kind.now a.first.now a.size.now a.listed.now a.zone.now a.place.now a.rows.now b.given x.state x.consistent _ _ x.held c.walk.ensures.0 c.walk.ensures.1 z (rw b.count h),
-    )
+    let held = c.lists_of-lists.ensures.2 b.map a.k a.rows.now b.given b.count hc in
+    let x = c.walk.ensures.2 b.map b.given _ hc held in
+    λ z h. (has_zone b.map t.vertices a.k t.kind t.first t.size t.listed t.zone t.place a.rows.now b.given z (rw b.count h), has_list b.map t.vertices a.k t.kind t.first t.size t.listed t.zone t.place a.rows.now b.given x.state x.consistent _ _ x.held c.walk.ensures.0 c.walk.ensures.1 z (rw b.count h))
 
 pub returns-in-Some : goal.returns-in-Some
 returns-in-Some c =
     λ m pl d e pd es eg.
     let a = c.args in
-    let long : length a.starts ≡ 64 = good_length (e_int w8) 64 a.starts _ c.well_formed.1.1.1.1.1.1.1.1.1.1.1.0 in
+    let long : length a.starts ≡ 64 = search rules in
     let l : a.k ≤ length a.starts = omega (arith, long, d.few) in
     let hc = start_consistent m d.accepted pl pd a.k a.starts _ l es c.standing-s.ensures in
-    let held = c.fill_lists.ensures.2 m a.n a.k a.kind.now a.zone.now a.place.now a.rows.now d e hc in
+    let held = c.lists_of-lists.ensures.2 m a.k a.rows.now d e hc in
     let x = c.in_ok-next.ensures.2 m d _ hc held in
-    judged_goals a.file.now a.len c.requires.len_in_bounds.0 a.starts c.if-len-lt2.false c.payload_word-count.ensures.0 l es c.standing-s.ensures x (c.standing-g.ensures ∙ ap meaning.standing (sym eg)) c.if-next-len.false (Err (plan.Goal c.in-Some.z)) (c.in-Some.ensures m a.n a.k a.zone.now a.place.now a.rows.now d e x.state x.consistent x.held)
+    judged_goals a.file.now a.len c.requires.len_in_bounds.0 a.starts c.if-len-lt2.false c.payload_word-count.ensures.0 l es c.standing-s.ensures x (c.standing-g.ensures ∙ ap meaning.standing (sym eg)) c.if-next-len.false (Err (plan.Goal c.in-Some.z)) (c.in-Some.ensures m a.k a.rows.now d e x.state x.consistent x.held)
 
 pub returns-in-None : goal.returns-in-None
 returns-in-None c =
     λ m pl d e pd es eg.
     let a = c.args in
-    let long : length a.starts ≡ 64 = good_length (e_int w8) 64 a.starts _ c.well_formed.1.1.1.1.1.1.1.1.1.1.1.0 in
+    let long : length a.starts ≡ 64 = search rules in
     let l : a.k ≤ length a.starts = omega (arith, long, d.few) in
     let hc = start_consistent m d.accepted pl pd a.k a.starts _ l es c.standing-s.ensures in
-    let held = c.fill_lists.ensures.2 m a.n a.k a.kind.now a.zone.now a.place.now a.rows.now d e hc in
+    let held = c.lists_of-lists.ensures.2 m a.k a.rows.now d e hc in
     let x = c.in_ok-next.ensures.2 m d _ hc held in
-    judged_goals a.file.now a.len c.requires.len_in_bounds.0 a.starts c.if-len-lt2.false c.payload_word-count.ensures.0 l es c.standing-s.ensures x (c.standing-g.ensures ∙ ap meaning.standing (sym eg)) c.if-next-len.false (Ok tt) (c.in-None.ensures m a.n a.k a.zone.now a.place.now a.rows.now d e x.state x.consistent x.held)
+    judged_goals a.file.now a.len c.requires.len_in_bounds.0 a.starts c.if-len-lt2.false c.payload_word-count.ensures.0 l es c.standing-s.ensures x (c.standing-g.ensures ∙ ap meaning.standing (sym eg)) c.if-next-len.false (Ok tt) (c.in-None.ensures m a.k a.rows.now d e x.state x.consistent x.held)

@@ -8,14 +8,14 @@ pub take_out-requires : goal.take_out-requires
 take_out-requires c =
     let a = c.args in
     let b = c.requires.chosen.read in
-    marching_out a.file.now a.o a.x.list a.kind.now a.first.now a.size.now a.listed.now a.zone.now a.place.now a.lists.now.counts a.lists.now.cells c.requires.marching _ _ _ _ b.first b.second b.third b.fourth _ c.requires.chosen.stood
+    marching_out a.file.now a.o a.x.list a.map.now.kind a.map.now.first a.map.now.size a.map.now.listed a.map.now.zone a.map.now.place a.lists.now.counts a.lists.now.cells c.requires.marching _ _ _ _ b.first b.second b.third b.fourth _ c.requires.chosen.stood
 
 pub put_in-requires-clause-puts_in : goal.put_in-requires-clause-puts_in
 put_in-requires-clause-puts_in c =
     let a = c.args in
     let b = c.requires.chosen.read in
     let l = rw c.requires.chosen.stood at c.take_out.ensures in
-    marching_in a.file.now a.o a.x.list a.kind.now a.first.now a.size.now a.listed.now a.zone.now a.place.now a.lists.now.counts a.lists.now.cells c.requires.marching _ _ _ _ b.first b.second b.third b.fourth _ _ l _ (λ z. (c.requires.chosen.comes z).0)
+    marching_in a.file.now a.o a.x.list a.map.now.kind a.map.now.first a.map.now.size a.map.now.listed a.map.now.zone a.map.now.place a.lists.now.counts a.lists.now.cells c.requires.marching _ _ _ _ b.first b.second b.third b.fourth _ _ l _ (λ z. (c.requires.chosen.comes z).0)
 
 pub returns : goal.returns
 returns c =
@@ -23,10 +23,10 @@ returns c =
     let a = c.args in
     let b = c.requires.chosen.read in
     let l = rw c.requires.chosen.stood at c.take_out.ensures in
-    let s = marching_still a.file.now a.o a.x.list a.kind.now a.first.now a.size.now a.listed.now a.zone.now a.place.now a.lists.now.counts a.lists.now.cells x _ _ _ _ b.first b.second b.third b.fourth _ _ l in
-    let p = c.put_in.ensures a.x.bytes.fourth (λ z. (c.requires.chosen.comes z).1 ∙ ap (entry_on (kind_at a.kind.now a.zone.now a.x.bytes.third) a.x.bytes.fourth) s) in
+    let s = marching_still a.file.now a.o a.x.list a.map.now.kind a.map.now.first a.map.now.size a.map.now.listed a.map.now.zone a.map.now.place a.lists.now.counts a.lists.now.cells x _ _ _ _ b.first b.second b.third b.fourth _ _ l in
+    let p = c.put_in.ensures a.x.bytes.fourth (λ z. (c.requires.chosen.comes z).1 ∙ ap (entry_on (kind_at a.map.now.kind a.map.now.zone a.x.bytes.third) a.x.bytes.fourth) s) in
     record {
-      held = marching_held a.file.now a.o a.x.list a.kind.now a.first.now a.size.now a.listed.now a.zone.now a.place.now a.lists.now.counts a.lists.now.cells x _ _ _ _ b.first b.second b.third b.fourth _ _ l _ _ p;
-      many = marching_many a.file.now a.o a.x.list a.kind.now a.first.now a.size.now a.listed.now a.zone.now a.place.now a.lists.now.counts a.lists.now.cells x _ _ _ _ b.first b.second b.third b.fourth _ _ l _ _ p;
-      room = marching_long a.file.now a.o a.x.list a.kind.now a.first.now a.size.now a.listed.now a.zone.now a.place.now a.lists.now.counts a.lists.now.cells x _ _ _ _ b.first b.second b.third b.fourth _ _ l _ _ p;
+      held = marching_held a.file.now a.o a.x.list a.map.now.kind a.map.now.first a.map.now.size a.map.now.listed a.map.now.zone a.map.now.place a.lists.now.counts a.lists.now.cells x _ _ _ _ b.first b.second b.third b.fourth _ _ l _ _ p;
+      many = marching_many a.file.now a.o a.x.list a.map.now.kind a.map.now.first a.map.now.size a.map.now.listed a.map.now.zone a.map.now.place a.lists.now.counts a.lists.now.cells x _ _ _ _ b.first b.second b.third b.fourth _ _ l _ _ p;
+      room = marching_long a.file.now a.o a.x.list a.map.now.kind a.map.now.first a.map.now.size a.map.now.listed a.map.now.zone a.map.now.place a.lists.now.counts a.lists.now.cells x _ _ _ _ b.first b.second b.third b.fourth _ _ l _ _ p;
     }

@@ -9,7 +9,7 @@ use native.Mathlib.Omega.{arith}
 use Rattle.wire.specs.Payload.{payload, held_length}
 use Rattle.orders.specs.Orders.{entered}
 use Rattle.orders.specs.Lengths.{entered_length}
-use Rattle.walking.specs.Given.{kind_at}
+use Rattle.walking.specs.OnMap.{kind_on, place_on}
 use Rattle.walking.specs.Held.{held_part}
 use Rattle.configurations.specs.Entering.{entry_on}
 use Rattle.testing.specs.Held.{changed_rest, rest_of}
@@ -20,18 +20,23 @@ pub returns : goal.returns
 returns c =
     λ behind w.
     let a = c.args in
-    let z : ℕ = get_or a.zone.now a.v 0 in
+    let s = c.spot-at.ensures in
+    let z : ℕ = get_or a.map.now.zone a.v.0 0 in
     let row : length a.lists.now.cells ≡ 128 = search rules in
     let n : ℕ = get_or a.lists.now.counts z 0 in
-    let m : ℕ = get_or a.size.now z 0 in
-    let l : List ℕ = take n (drop (get_or a.first.now z 0) a.lists.now.cells) in
+    let m : ℕ = get_or a.map.now.size z 0 in
+    let i : ℕ = get_or a.map.now.first z 0 in
+    let k : ℕ = kind_on a.map.now a.v.0 in
+    let j : ℕ = place_on a.map.now a.v.0 in
+    let l : List ℕ = take n (drop i a.lists.now.cells) in
     let f : List ℕ = held_part a.file.now (a.from + a.e) a.from a.e in
-    let q : length l ≡ n = length-take-le n (drop (get_or a.first.now z 0) a.lists.now.cells) (omega (arith, length-drop (get_or a.first.now z 0) a.lists.now.cells, c.requires.puts_in.at.here.room, c.requires.puts_in.at.here.few)) in
+    let q : length l ≡ n = length-take-le n (drop i a.lists.now.cells) (omega (arith, length-drop i a.lists.now.cells, c.requires.puts_in.at.here.room, c.requires.puts_in.at.here.few)) in
     let h : length f ≡ a.e = length-take-le a.e (drop a.from (take (a.from + a.e) (payload a.file.now))) (omega (arith, length-drop a.from (take (a.from + a.e) (payload a.file.now)), held_length a.file.now (a.from + a.e) c.requires.e_in_bounds)) in
-    let s : length (entered (kind_at a.kind.now a.zone.now a.v) m l a.r (get_or a.place.now a.v 0) behind f) ≡ suc n =
-    entered_length (kind_at a.kind.now a.zone.now a.v) m l a.r (get_or a.place.now a.v 0) behind f (λ k x. h ∙ extra_all (get_or a.kind.now z 0) m n a.e c.requires.puts_in.extra k (ap suc (sym q) ∙ x)) ∙ ap suc q in
-    record {
-      change = changed_rest a.lists.now.cells (get_or a.first.now z 0) m _ (λ (x : List ℕ). entered (kind_at a.kind.now a.zone.now a.v) m (take n x) a.r (get_or a.place.now a.v 0) behind f) _ row (omega (arith, c.requires.puts_in.at.here.room, row))
-          (c.enter_in.ensures behind (λ y. w y ∙ ap (λ (x : List ℕ). entry_on (kind_at a.kind.now a.zone.now a.v) behind (take n x)) (sym (rest_of (get_or a.first.now z 0) 128 a.lists.now.cells row))));
-      count = ap (λ (x : ℕ). set a.lists.now.counts z x) (add-one n ∙ sym s);
-    }
+    let y : length (entered k m l a.r.0 j behind f) ≡ suc n =
+    entered_length k m l a.r.0 j behind f (λ u x. h ∙ extra_all k m n a.e c.requires.puts_in.extra u (ap suc (sym q) ∙ x)) ∙ ap suc q in
+    let r = rw (s.kind, s.first, s.size, s.count, s.place) at c.enter_in.ensures in
+    rw (s.zone, s.first, s.count) (record {
+      change = changed_rest a.lists.now.cells i m _ (λ (x : List ℕ). entered k m (take n x) a.r.0 j behind f) _ row (omega (arith, c.requires.puts_in.at.here.room, row))
+          (r behind (λ y. w y ∙ ap (λ (x : List ℕ). entry_on k behind (take n x)) (sym (rest_of i 128 a.lists.now.cells row))));
+      count = ap (λ (x : ℕ). set a.lists.now.counts z x) (add-one n ∙ sym y);
+    })

@@ -1,0 +1,14 @@
+use mathlib.Core.List.{List}
+use mathlib.Core.Path.{◌≡◌}
+use Prim.Native.Nat.{ℕ}
+use lib.ListN.{length}
+use Rattle.spec.specs.Layout.{Map}
+use Rattle.spec.specs.Terms.{zone_count}
+use Rattle.walking.specs.OnMap.{GivenOn}
+use Rattle.judge.specs.Filling.{Filled}
+use Rattle.judge.proofs.ending.lists_of.Given as goal
+
+abbrev pub invariant-loop-z : goal.invariant-loop-z
+invariant-loop-z l =
+    (length l.lists.cells ≡ length l.map.listed) × (length l.lists.counts ≡ 64)
+    × ((m : Map) (k : ℕ) (rows : List (List ℕ)) → GivenOn m k l.map rows → zone_count m ≡ l.map.zones → Filled m l.map.first l.lists.counts l.lists.cells l.state l.z)
