@@ -123,7 +123,7 @@ module _ (map : MapTables) (m : Map) (h : MapHeld map m) (g : Accepted m) (u v :
 
     -- the zone that is entered is a part of the listing
     pub part_held : HasPart map y
-    part_held = rw to_zone (record { below = omega (arith, low, h.few); inside = h.inside (zone_of m v) low })
+    part_held = rw to_zone (record { below = omega (arith, low, h.few); inside = omega (arith, h.inside (zone_of m v) low, h.long_listed) })
 
     module _ (kind j : ℕ) (vs : List ℕ) (ek : kind ≡ get_or map.kind y 0) (ej : j ≡ get_or map.place v 0) (ev : vs ≡ part_of map y) where
       zone_is : zone_at m (zone_of m v) ≡ record { kind = kind; vertices = vs }
@@ -149,8 +149,8 @@ module _ (map : MapTables) (m : Map) (h : MapHeld map m) (g : Accepted m) (u v :
           }
 
 -- a zone has at most 128 vertices
-pub part_short : (map : MapTables) (y : ℕ) (vs : List ℕ) → HasPart map y → vs ≡ part_of map y → length vs ≤ 128
-part_short map y vs h e = omega (arith, h.inside, ap length e, length-take (get_or map.size y 0) (drop (get_or map.first y 0) map.listed))
+pub part_short : (map : MapTables) (y : ℕ) (vs : List ℕ) → get_or map.first y 0 + get_or map.size y 0 ≤ 128 → vs ≡ part_of map y → length vs ≤ 128
+part_short map y vs h e = omega (arith, h, ap length e, length-take (get_or map.size y 0) (drop (get_or map.first y 0) map.listed))
 
 step_most_lem : (s : State) (vs : List ℕ) (j r u v behind : ℕ) (filled : Bool) → length (step_from s vs j r u v behind filled) ≤ 4 + length vs
 unfolding step_from

@@ -1,5 +1,5 @@
 // The tables of a map that was read: one by vertices is indexed by a vertex, one by zones by a zone, and by nothing else.
-ghost use Rattle.std.specs.Prelude.{◌≡◌, ◌↔◌, ◌<◌, IsTrue, get_or};
+ghost use Rattle.std.specs.Prelude.{◌≡◌, ◌↔◌, ◌+◌, ◌<◌, ◌≤◌, IsTrue, get_or};
 ghost use Rattle.numbering.specs.Kind.{number_of};
 ghost use Rattle.layout.specs.Lists.{HasPart, part_of};
 
@@ -45,7 +45,8 @@ impl MapTables {
 
     // Is a zone one of the tables', with its vertices in the listing?
     pub fn has_part(&self, z: Zone) -> bool
-        ensures { IsTrue result ↔ HasPart self.now z.0 }
+        ensures part { IsTrue result ↔ HasPart self.now z.0 }
+        ensures short { IsTrue result → get_or self.now.first z.0 0 + get_or self.now.size z.0 0 ≤ 128 }
     {
         let i = z.0 as usize;
         if i >= 64 {
