@@ -1,8 +1,8 @@
 -- Entering a clique, and the follow list as an arrangement.
-use Rattle.std.specs.Prelude.{◌≡◌, refl, ◌≢◌, Bool, true, false, ℕ, zero, suc, ◌+◌, ◌*◌, ◌<◌, ◌≤◌, List, [], ◌∷◌, map, length, get_or, set, drop, T, eqb}
-use Rattle.std.proofs.Common.{ap, ap₂, ◌∙◌, add-one, arith, length-set, drop-cons, get_or-set_other, eq-eqb, ne_eqb, eqb-true}
+use Rattle.std.specs.Prelude.{◌≡◌, refl, ◌≢◌, Bool, true, false, ℕ, zero, suc, ◌+◌, ◌*◌, ◌<◌, ◌≤◌, List, [], ◌∷◌, map, length, get_or, set, take, drop, replicate, T, eqb}
+use Rattle.std.proofs.Common.{ap, ap₂, ◌∙◌, add-one, arith, length-set, length-take-le, drop-cons, get_or-set_other, eq-eqb, ne_eqb, eqb-true}
 use Rattle.std.proofs.Math.Path.{sym}
-use Rattle.std.proofs.Math.Decide.{dec_lt, ℕ_discrete}
+use Rattle.std.proofs.Math.Decide.{dec_lt}
 use Rattle.std.proofs.lemmas.List.{length-map}
 use Rattle.std.proofs.Math.ListN.{get_or-eq_default}
 use Rattle.spec.specs.Outcome.{◌and◌, same_list}
@@ -10,13 +10,14 @@ use Rattle.spec.specs.Arrangement.{Arrangement, cell, order, last_free}
 use Rattle.spec.specs.Clique.{named, same_robots, open_target, lowest_off, make_room, clique_to, clique_can_enter, clique_enter}
 use Rattle.spec.specs.State.{State, robot_on, cell_of, arrangement_of, across}
 use Rattle.theory.specs.Basics.Lists.{get_d_map}
-use Rattle.theory.specs.Basics.Tests.{of_true, of_false, and_right, same→eq}
+use Rattle.theory.specs.Basics.Tests.{of_true, and_right, same→eq}
 use Rattle.theory.specs.Maps.Cells.{cell_of_lem}
 use Rattle.theory.specs.Zones.Arrangements.{cell_inside}
 use Rattle.theory.specs.Zones.Robots.{same_robots_lem}
 use Rattle.theory.specs.Zones.Crossing.{extra_of}
 use Rattle.motion.specs.World.{World, made_all}
 use Rattle.motion.specs.Across.{arrangement_length, arrangement_at, made_nothing}
+use Rattle.cells.specs.Cells.{overlaid, overlaid_all}
 use Rattle.cells.specs.Reading.{eqb_suc, cell_under}
 use Rattle.arranging.specs.Toward.{to_rest}
 
@@ -25,6 +26,13 @@ pub map_next : (f : ℕ → ℕ) (l : List ℕ) (k x : ℕ) → k < length l →
 map_next f l k x h e =
     drop-cons (map f l) k 0 (omega (arith, length-map l f))
     ∙ ap₂ (λ (y n : ℕ). y ∷ drop n (map f l)) (get_d_map f l k h ∙ sym e) (sym (add-one k))
+
+-- ---- cells
+
+-- a zone's arrangement in as many cells of an array
+pub cells_are : (s : State) (vs cells : List ℕ) → length vs ≤ 128 → cells ≡ overlaid (arrangement_of s vs) (take (length vs) (replicate 128 0)) → cells ≡ arrangement_of s vs
+cells_are s vs cells h e =
+    e ∙ overlaid_all (arrangement_of s vs) (take (length vs) (replicate 128 0)) (arrangement_length s vs ∙ sym (length-take-le (length vs) (replicate 128 0) (omega (arith, h))))
 
 -- ---- follow lists
 
@@ -35,27 +43,6 @@ Numbered list j = (i : ℕ) → i ≢ j → get_or list i 0 ≢ 255
 -- an empty list names nobody
 pub numbered_none : (j : ℕ) → Numbered [] j
 numbered_none j i n e = absurd (omega arith)
-
--- one name more
-pub numbered_more : (list : List ℕ) (j k : ℕ) → ((i : ℕ) → i < k → i ≢ j → get_or list i 0 ≢ 255) → (k ≢ j → get_or list k 0 ≢ 255)
-    → (i : ℕ) → i < k + 1 → i ≢ j → get_or list i 0 ≢ 255
-numbered_more list j k h last i l n e = pick (ℕ_discrete i k)
-  where
-    pick : Dec (i ≡ k) → ⊥
-    pick (yes q) = last (λ d. n (q ∙ d)) (ap (λ (x : ℕ). get_or list x 0) (sym q) ∙ e)
-    pick (no q) = h i (omega arith) n e
-
--- all names
-pub numbered_all : (list : List ℕ) (j k : ℕ) → length list ≤ k → ((i : ℕ) → i < k → i ≢ j → get_or list i 0 ≢ 255) → Numbered list j
-numbered_all list j k l h i n e = pick (dec_lt i k)
-  where
-    pick : Dec (i < k) → ⊥
-    pick (yes q) = h i q n e
-    pick (no q) = absurd (omega (arith, sym e ∙ get_or-eq_default list 0 {n = i} (omega arith)))
-
--- a test that passed did not fail
-pub never : true ≡ false → ⊥
-never e = of_false {b = true} e tt
 
 -- the names as cells, as the code reads them
 -- where no name is 255
@@ -77,7 +64,7 @@ pub cells_named : (list : List ℕ) (j : ℕ) → length (set (map cell_of list)
 cells_named list j = length-set (map cell_of list) j 0 ∙ length-map list cell_of
 
 -- what a follow list names at a place
-pub named_at : (list : List ℕ) (j : ℕ) → j < length list → cell (named list) j ≡ suc (get_or list j 0)
+named_at : (list : List ℕ) (j : ℕ) → j < length list → cell (named list) j ≡ suc (get_or list j 0)
 unfolding named
 named_at list j h = get_d_map suc list j h
 

@@ -10,11 +10,16 @@ use cells::{cells_of, is_full};
 use comparing::{same_cells, same_robots};
 use motion::State;
 
-// Are the goals in the configuration of the clique? The two arrangements are worked out in lent cells.
-fn can_end_in(state: &State, zone: &[u8], goals: &State, cells: &mut [u8], goal: &mut [u8]) -> bool
-    requires { (length cells.old ≡ length zone.now) × (length goal.old ≡ length zone.now) }
+// Is the goal arrangement in the configuration: in a full clique the arrangement itself, in any other one of the same robots?
+pub fn can_end(state: &State, zone: &[u8], goals: &State) -> bool
+    requires { length zone.now ≤ 128 }
     ensures { result ≡ clique_can_end (arrangement_of state.now zone.now) (arrangement_of goals.now zone.now) }
 {
+    let n = zone.len();
+    let mut cells = [0; 128];
+    let mut goal = [0; 128];
+    let cells = &mut cells[..n];
+    let goal = &mut goal[..n];
     cells_of(state, zone, cells);
     cells_of(goals, zone, goal);
     let packed = is_full(state, zone);
@@ -22,36 +27,6 @@ fn can_end_in(state: &State, zone: &[u8], goals: &State, cells: &mut [u8], goal:
         return same_cells(cells, goal);
     }
     same_robots(cells, goal)
-}
-
-// Is the goal arrangement in the configuration: in a full clique the arrangement itself, in any other one of the same robots?
-pub fn can_end(state: &State, zone: &[u8], goals: &State) -> bool
-    requires { length zone.now ≤ 128 }
-    ensures { result ≡ clique_can_end (arrangement_of state.now zone.now) (arrangement_of goals.now zone.now) }
-{
-    let n = zone.len();
-    let mut cells = [0u8; 128];
-    let mut goal = [0u8; 128];
-    can_end_in(state, zone, goals, &mut cells[..n], &mut goal[..n])
-}
-
-fn end_in(
-    state: &mut State,
-    count: usize,
-    zone: &[u8],
-    goals: &State,
-    cells: &mut [u8],
-    goal: &mut [u8],
-    out: &mut [u8],
-) -> usize
-    requires zone_len_bound { (length zone.now ≤ 128) × (length cells.old ≡ length zone.now) × (length goal.old ≡ length zone.now) }
-    requires distinct { Distinct (arrangement_of state.old zone.now) }
-    ensures { world state.new result out.new ≡ made_all (world state.old count out.old) (across zone.now (clique_end (arrangement_of state.old zone.now) (arrangement_of goals.now zone.now))) }
-{
-    cells_of(state, zone, cells);
-    cells_of(goals, zone, goal);
-    let n = zone.len() * 2;
-    go_toward(state, count, zone, cells, goal, n, out)
 }
 
 // "Clique to a given arrangement", the goals', where no robot stands twice.
@@ -67,15 +42,11 @@ pub fn bring_to_goals(
     ensures { world state.new result out.new ≡ made_all (world state.old count out.old) (across zone.now (clique_end (arrangement_of state.old zone.now) (arrangement_of goals.now zone.now))) }
 {
     let n = zone.len();
-    let mut cells = [0u8; 128];
-    let mut goal = [0u8; 128];
-    end_in(
-        state,
-        count,
-        zone,
-        goals,
-        &mut cells[..n],
-        &mut goal[..n],
-        out,
-    )
+    let mut cells = [0; 128];
+    let mut goal = [0; 128];
+    let cells = &mut cells[..n];
+    let goal = &mut goal[..n];
+    cells_of(state, zone, cells);
+    cells_of(goals, zone, goal);
+    go_toward(state, count, zone, cells, goal, n * 2, out)
 }

@@ -1,13 +1,29 @@
-use mathlib.Core.Path.{sym}
-use lib.ListN.{length}
-use Rattle.comparing.specs.Comparing.{cells_length}
+use Rattle.std.proofs.Common.{◌*◌, List, length, ap, ap₂, sym, ◌∙◌, arith}
+use Rattle.spec.specs.Arrangement.{Move}
+use Rattle.spec.specs.Clique.{clique_to}
+use Rattle.spec.specs.State.{arrangement_of, across}
+use Rattle.motion.specs.World.{world, made_all}
+use Rattle.motion.specs.Across.{arrangement_length}
+use Rattle.comparing.specs.Comparing.{end_is}
+use Rattle.tabling.specs.Table.{distinct_of}
+use Rattle.clique.specs.Entering.{cells_are}
 use Rattle.clique.proofs.ending.bring_to_goals.Goals as goal
 
-pub slice_bounds-end_in-end : goal.slice_bounds-end_in-end
-slice_bounds-end_in-end c = sym (cells_length (length c.args.zone.now) c.requires.zone_len_bound)
+pub go_toward-requires : goal.go_toward-requires
+go_toward-requires c =
+    let p = c.args in
+    let z = p.zone.now in
+    let f = cells_are p.state.now z _ c.requires.zone_len_bound c.cells_of.ensures in
+    let h = cells_are p.goals.now z _ c.requires.zone_len_bound c.cells_of-2.ensures in
+    let l = ap length f ∙ arrangement_length p.state.now z in
+    (omega (arith, l, c.requires.zone_len_bound), ap length h ∙ arrangement_length p.goals.now z ∙ sym l, distinct_of f c.requires.distinct)
 
-pub slice_bounds-end_in-end-2 : goal.slice_bounds-end_in-end-2
-slice_bounds-end_in-end-2 c = sym (cells_length (length c.args.zone.now) c.requires.zone_len_bound)
-
-pub end_in-requires : goal.end_in-requires
-end_in-requires c = let e = cells_length (length c.args.zone.now) c.requires.zone_len_bound in record { zone_len_bound = (c.requires.zone_len_bound, e, e); distinct = c.requires.distinct }
+pub returns : goal.returns
+returns c =
+    let p = c.args in
+    let z = p.zone.now in
+    let f = cells_are p.state.now z _ c.requires.zone_len_bound c.cells_of.ensures in
+    let h = cells_are p.goals.now z _ c.requires.zone_len_bound c.cells_of-2.ensures in
+    c.go_toward.ensures
+    ∙ ap (λ (ms : List Move). made_all (world p.state.now p.count p.out.now) (across z ms))
+    (ap₂ (clique_to (length z * 2)) f h ∙ end_is (arrangement_of p.state.now z) (arrangement_of p.goals.now z) (length z) (sym (arrangement_length p.state.now z)))

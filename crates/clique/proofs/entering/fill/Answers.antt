@@ -1,18 +1,35 @@
-use native.Mathlib.Omega.{arith}
-use mathlib.Core.Path.{sym}
-use lib.ListN.{length}
-use Rattle.comparing.specs.Comparing.{cells_length}
+use Rattle.std.proofs.Common.{◌≡◌, ◌*◌, List, true, length, ap, ap₂, sym, ◌∙◌, arith, rules}
+use Rattle.spec.specs.Arrangement.{Move}
+use Rattle.spec.specs.Clique.{clique_to}
+use Rattle.spec.specs.State.{across}
+use Rattle.motion.specs.World.{world, made_all}
+use Rattle.motion.specs.Across.{arrangement_length}
+use Rattle.tabling.specs.Table.{distinct_of}
+use Rattle.clique.specs.Entering.{cells_are, named_cells, cells_named, filled_still}
 use Rattle.clique.proofs.entering.fill.Goals as goal
 
-pub slice_bounds-fill_in-end : goal.slice_bounds-fill_in-end
-slice_bounds-fill_in-end c = sym (cells_length (length c.args.zone.now) c.requires.zone_len_bound.0)
+pub go_toward-requires : goal.go_toward-requires
+go_toward-requires c =
+    let p = c.args in
+    let z = p.zone.now in
+    let b = c.requires.zone_len_bound in
+    let f = cells_are p.state.now z _ b.0 c.cells_of.ensures in
+    let l = ap length f ∙ arrangement_length p.state.now z in
+    (omega (arith, l, b.0), ap length c.goal_cells.ensures ∙ cells_named p.list.now p.j ∙ b.1 ∙ sym l, distinct_of f c.requires.distinct)
 
-pub slice_bounds-fill_in-end-2 : goal.slice_bounds-fill_in-end-2
-slice_bounds-fill_in-end-2 c = sym (cells_length (length c.args.list.now) (omega (arith, c.requires.zone_len_bound.0, c.requires.zone_len_bound.1)))
+pub returns-then-moves : goal.returns-then-moves
+returns-then-moves c =
+    let p = c.args in
+    let z = p.zone.now in
+    let f = cells_are p.state.now z _ c.requires.zone_len_bound.0 c.cells_of.ensures in
+    let h = c.goal_cells.ensures ∙ named_cells p.list.now p.j c.requires.zone_len_bound.2 in
+    c.go_toward.ensures ∙ ap (λ (ms : List Move). made_all (world p.state.now p.count p.out.now) (across z ms)) (ap₂ (clique_to (length z * 2)) f h)
 
-pub fill_in-requires : goal.fill_in-requires
-fill_in-requires c =
-    let p = c.requires.zone_len_bound in
-    let z = length c.args.zone.now in
-    let l = length c.args.list.now in
-    record { zone_len_bound = (p.0, cells_length z p.0, cells_length l (omega (arith, p.0, p.1)), p.1, p.2); distinct = c.requires.distinct }
+pub returns : goal.returns
+returns c =
+    let p = c.args in
+    let z = p.zone.now in
+    let f = cells_are p.state.now z _ c.requires.zone_len_bound.0 c.cells_of.ensures in
+    let h = c.goal_cells.ensures ∙ named_cells p.list.now p.j c.requires.zone_len_bound.2 in
+    let q : c.same_cells-moves.result ≡ true = search rules in
+    filled_still (length z * 2) _ _ _ _ z (world p.state.now p.count p.out.now) _ f h q c.same_cells-moves.ensures

@@ -1,13 +1,17 @@
-use mathlib.Core.Path.{sym}
-use lib.ListN.{length}
-use Rattle.comparing.specs.Comparing.{cells_length}
+use Rattle.std.proofs.Common.{ap₂, sym, ◌∙◌}
+use Rattle.spec.specs.Clique.{same_robots}
+use Rattle.theory.specs.Basics.Tests.{false_of}
+use Rattle.clique.specs.Entering.{cells_are, named_cells, named_nobody}
 use Rattle.clique.proofs.entering.names_inside.Goals as goal
 
-pub slice_bounds-names_inside_in-end : goal.slice_bounds-names_inside_in-end
-slice_bounds-names_inside_in-end c = sym (cells_length (length c.args.zone.now) c.requires.0)
+pub returns-then-named : goal.returns-then-named
+returns-then-named c =
+    let p = c.args in
+    c.same_robots.ensures
+    ∙ ap₂ same_robots (cells_are p.state.now p.zone.now _ c.requires.0 c.cells_of.ensures) (c.goal_cells.ensures ∙ named_cells p.list.now p.j (c.names_robots-named.ensures.0 c.if-named.true))
 
-pub slice_bounds-names_inside_in-end-2 : goal.slice_bounds-names_inside_in-end-2
-slice_bounds-names_inside_in-end-2 c = sym (cells_length (length c.args.list.now) c.requires.1)
-
-pub names_inside_in-requires : goal.names_inside_in-requires
-names_inside_in-requires c = (cells_length (length c.args.zone.now) c.requires.0, cells_length (length c.args.list.now) c.requires.1)
+pub returns : goal.returns
+returns c =
+    let p = c.args in
+    let w = c.names_robots-named.ensures.1 c.if-named.false in
+    sym (false_of (named_nobody p.state.now p.zone.now p.list.now p.j w.0 w.1 w.2))
