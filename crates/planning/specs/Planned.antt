@@ -1,8 +1,8 @@
 -- A plan that is read and judged, or resolved.
 use Rattle.std.specs.Prelude.{◌≡◌, ℕ, ◌*◌, ◌/◌, ◌≤◌, ◌<◌, List, length, get_or, take, drop, ◌⊎◌, Result, Ok, Err, MatchResult, ⊤}
-use Rattle.std.proofs.Math.Path.{refl, sym, ap}
-use Rattle.std.proofs.Common.{◌∙◌, arith, inl, inr}
-use Rattle.spec.specs.Outcome.{Outcome, ok}
+use Rattle.std.proofs.Math.Path.{sym, ap}
+use Rattle.std.proofs.Common.{◌∙◌, arith, inr}
+use Rattle.spec.specs.Outcome.{ok}
 use Rattle.spec.specs.Wire.{payload_of}
 use Rattle.spec.specs.Layout.{Zone, zone_at}
 use Rattle.spec.specs.Arrangement.{Move}
