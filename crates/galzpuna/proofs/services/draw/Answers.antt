@@ -1,4 +1,3 @@
-use mathlib.Core.Path.{refl}
 use Rattle.std.proofs.lemmas.Result.{err_from_is_err_and}
 use Rattle.galzpuna.specs.Services.{served_as, draw_refused, starts_of, draw_delivered}
 use Rattle.galzpuna.proofs.services.draw.Goals as goal
