@@ -3,6 +3,7 @@ ghost use Rattle.std.specs.Prelude.{◌≤◌};
 ghost use Rattle.lines.specs.Text.{Put};
 ghost use Rattle.lines.specs.Listing.{listing_of};
 
+use galzpuna::Answer;
 use lines::{put_moves, put_refusal};
 
 // Puts the listing: the moves that the plan is resolved into with their rounds, or the refusal.
@@ -11,9 +12,7 @@ pub fn listing(map: &[u8], placing: &[u8], plan: &[u8], text: &mut [u8]) -> usiz
     ensures upper_bound { result ≤ 387066 }
 {
     let mut moves = [0u8; 65536];
-    let a = galzpuna::galzpuna_resolve(map, placing, plan, &mut moves);
-    let number = a.number;
-    let place = a.place;
+    let Answer { number, place } = galzpuna::galzpuna_resolve(map, placing, plan, &mut moves);
     if number != 0 {
         return put_refusal(number, place, text);
     }

@@ -17,7 +17,8 @@ fn read_file<R: Files>(rt: &R, name: &str, buffer: &mut [u8]) -> usize
     }
 }
 
-// Reads until the buffer is full, the input ends or a read fails, and answers how many bytes it put at the start of the buffer.
+// Reads until the buffer is full, the input ends or a read fails, and answers how many bytes it put at the start of the buffer. A `for` over the
+// input's bytes would read them one by one.
 fn read_full<R: Read>(input: &mut R, buffer: &mut [u8]) -> usize
     ensures in_bounds { result ≤ length buffer.new }
     ensures prefix { result ≡ length (take result buffer.new) }

@@ -8,7 +8,7 @@ pub fn hall_map(file: &mut [u8], n: u8) {
     writer::put_byte(file, 2, 2);
     writer::put_byte(file, 3, n);
     list_vertices(file, n);
-    let m = n as usize;
+    let m = usize::from(n);
     let edges = put_edges(file, n);
     writer::put_word(file, 4 + m, edges);
     answers::deliver(file, 1, 9, 6 + m + 2 * edges);
@@ -16,10 +16,8 @@ pub fn hall_map(file: &mut [u8], n: u8) {
 
 // Lists the n vertices of the one zone.
 fn list_vertices(file: &mut [u8], n: u8) {
-    let mut i: u8 = 0;
-    while i < n {
-        writer::put_byte(file, 4 + i as usize, i);
-        i += 1;
+    for i in 0..n {
+        writer::put_byte(file, 4 + usize::from(i), i);
     }
 }
 
@@ -27,28 +25,24 @@ fn list_vertices(file: &mut [u8], n: u8) {
 fn put_edges(file: &mut [u8], n: u8) -> usize
     ensures { result ≤ 255 }
 {
-    let m = n as usize;
-    let mut i: u8 = 1;
-    let mut edges: usize = 0;
-    while i < n {
-        writer::put_byte(file, 6 + m + 2 * edges, i - 1);
-        writer::put_byte(file, 7 + m + 2 * edges, i);
-        edges += 1;
-        i += 1;
+    let m = usize::from(n);
+    for i in 1..n {
+        let at = 4 + m + 2 * usize::from(i);
+        writer::put_byte(file, at, i - 1);
+        writer::put_byte(file, at + 1, i);
     }
-    edges
+    m.saturating_sub(1)
 }
 
 // A placing of k robots, each on its goal.
 pub fn at_goals(file: &mut [u8], k: u8) {
     writer::put_byte(file, 0, k);
-    let mut i: u8 = 0;
-    while i < k {
-        writer::put_byte(file, 1 + 2 * (i as usize), i);
-        writer::put_byte(file, 2 + 2 * (i as usize), i);
-        i += 1;
+    for i in 0..k {
+        let at = 1 + 2 * usize::from(i);
+        writer::put_byte(file, at, i);
+        writer::put_byte(file, at + 1, i);
     }
-    answers::deliver(file, 2, 1, 1 + 2 * (k as usize));
+    answers::deliver(file, 2, 1, 1 + 2 * usize::from(k));
 }
 
 // A plan of no steps.
@@ -70,15 +64,5 @@ pub fn stack_map(file: &mut [u8]) {
 
 // How many bytes of two blocks differ.
 pub fn differences(a: &[u8; 512], b: &[u8; 512]) -> u32 {
-    let mut n: u32 = 0;
-    let mut i: usize = 0;
-    while i < 512 {
-        let x = a[i];
-        let y = b[i];
-        i += 1;
-        if x != y {
-            n += 1;
-        }
-    }
-    n
+    a.iter().zip(b).filter(|(x, y)| x != y).count() as u32
 }

@@ -57,30 +57,16 @@ fn outside_track() -> Answer {
 // right the block comes as far as its kind, which is wrong: 13.
 fn rfc_block(stored: u16) -> Answer {
     let mut block = [0u8; 512];
-    block[0] = 0x00;
-    block[1] = 0x01;
-    block[2] = 0xf2;
-    block[3] = 0x03;
-    block[4] = 0xf4;
-    block[5] = 0xf5;
-    block[6] = 0xf6;
-    block[7] = 0xf7;
-    block[510] = (stored / 256) as u8;
-    block[511] = (stored % 256) as u8;
+    block[..8].copy_from_slice(&[0x00, 0x01, 0xf2, 0x03, 0xf4, 0xf5, 0xf6, 0xf7]);
+    block[510..].copy_from_slice(&stored.to_be_bytes());
     galzpuna::galzpuna_judge(&block, &block, &block)
 }
 
 // The least stored number that passes as that block's checksum; 65535 where none below it does.
 fn rfc_checksum() -> u32 {
-    let mut stored: u16 = 0;
-    while stored < 65535 {
-        let a = rfc_block(stored);
-        if a.number == 13 {
-            return stored as u32;
-        }
-        stored += 1;
-    }
-    65535
+    (0..65535u16)
+        .find(|stored| rfc_block(*stored).number == 13)
+        .map_or(65535, u32::from)
 }
 
 fn main(rt: HostRuntime) -> io::Result<()> {
