@@ -22,17 +22,14 @@ fn has_open(cells: &[u8], goal: &[u8]) -> bool
 }
 
 // From where on an open target is to be looked for: none of the places before is one.
+// The loop goes by sixteen, and ends where fewer are left or one of them is open.
 fn pass_sixteens(cells: &[u8], goal: &[u8], n: usize, from: usize) -> usize
     requires { (from ≤ n) × (n ≤ length cells.now) × (n ≤ length goal.now) }
     ensures { (result ≤ n) × (result + open_target (drop result cells.now) (drop result goal.now) ≡ from + open_target (drop from cells.now) (drop from goal.now)) }
 {
     let mut i = from;
-    while 16 <= n - i {
-        let e = i + 16;
-        if has_open(&cells[i..e], &goal[i..e]) {
-            return i;
-        }
-        i = e;
+    while 16 <= n - i && !has_open(&cells[i..i + 16], &goal[i..i + 16]) {
+        i += 16;
     }
     i
 }

@@ -1,4 +1,4 @@
-// Who can enter a zone that is not full, by the list of its robots, the first n of a part, and the list afterwards.
+// Who can enter a zone that is not full, by the list of its robots, and the list afterwards: the first n of a part, which has room for one more.
 ghost use Rattle.std.specs.Prelude.{◌≡◌, List, ℕ, suc, ◌+◌, ◌-◌, ◌*◌, ◌/◌, ◌≤◌, ◌<◌, length, take};
 ghost use Rattle.spec.specs.Ring.{wrap};
 ghost use Rattle.numbering.specs.Kind.{number_of};
@@ -46,73 +46,57 @@ fn ring_entry(list: &[u8], behind: u8) -> Option<usize>
 }
 
 // "Entering needs a reachable one with to empty and the named neighbour": where a robot comes in at place j, if it can, where it fills no clique.
-pub fn entry_at(
-    kind: ZoneKind,
-    part: &[u8],
-    n: usize,
-    size: usize,
-    j: usize,
-    behind: u8,
-) -> Option<usize>
-    requires { (n < size) × (size ≤ length part.now) × (size ≤ 128) × (number_of kind ≡ 3 → suc n ≡ size → ⊥) }
-    ensures { (r : ℕ) (list : List ℕ) → EntryFound (enter_test (number_of kind) size (take n part.now) r j behind list) n (entry_on (number_of kind) behind (take n part.now)) result }
+pub fn entry_at(kind: ZoneKind, list: &[u8], size: usize, j: usize, behind: u8) -> Option<usize>
+    requires { (length list.now < size) × (number_of kind ≡ 3 → suc (length list.now) ≡ size → ⊥) }
+    ensures { (r : ℕ) (follow : List ℕ) → EntryFound (enter_test (number_of kind) size list.now r j behind follow) (length list.now) (entry_on (number_of kind) behind list.now) result }
 {
-    let list = &part[..n];
     match kind {
-        ZoneKind::Clique => (behind == 255).then_some(n),
+        ZoneKind::Clique => (behind == 255).then_some(list.len()),
         ZoneKind::Ring => ring_entry(list, behind),
         _ => hall_entry(list, size, j, behind),
     }
 }
 
-// Does the follow list name the robots inside, and r at place j? That one is taken out of it.
-fn list_met(part: &[u8], n: usize, r: u8, j: usize, list: &mut [u8]) -> bool
-    requires { (n ≤ length part.now) × (j ≤ n) × (length list.old ≡ n + 1) }
-    ensures { result ≡ list_met (take n part.now) r j list.old }
+// Does the follow list name the robots of the list, and r at place j? That one is taken out of it.
+fn list_met(list: &[u8], r: u8, j: usize, follow: &mut [u8]) -> bool
+    requires { (j ≤ length list.now) × (length follow.old ≡ length list.now + 1) }
+    ensures { result ≡ list_met list.now r j follow.old }
 {
-    if list[j] != r {
+    if follow[j] != r {
         return false;
     }
-    remove(list, n + 1, j);
-    same_members(&part[..n], &list[..n])
+    let n = list.len();
+    remove(follow, n + 1, j);
+    same_members(list, &follow[..n])
 }
 
 // The same of the follow list that stands in the payload from `from` on; it is copied into the lent bytes.
-fn list_met_in(
-    file: &[u8],
-    from: usize,
-    part: &[u8],
-    n: usize,
-    r: u8,
-    j: usize,
-    list: &mut [u8],
-) -> bool
-    requires { (n ≤ length part.now) × (j ≤ n) × (length list.old ≡ n + 1) × (from + length list.old ≤ length file.now / 512 * 504) }
-    ensures { (len : ℕ) → len ≤ length file.now / 512 * 504 → from + length list.old ≤ len → result ≡ list_met (take n part.now) r j (held_part file.now len from (length list.old)) }
+fn list_met_in(file: &[u8], from: usize, list: &[u8], r: u8, j: usize, follow: &mut [u8]) -> bool
+    requires { (j ≤ length list.now) × (length follow.old ≡ length list.now + 1) × (from + length follow.old ≤ length file.now / 512 * 504) }
+    ensures { (len : ℕ) → len ≤ length file.now / 512 * 504 → from + length follow.old ≤ len → result ≡ list_met list.now r j (held_part file.now len from (length follow.old)) }
 {
-    copy_list(file, from, list);
-    list_met(part, n, r, j, list)
+    copy_list(file, from, follow);
+    list_met(list, r, j, follow)
 }
 
 // Can robot r fill a clique at place j, as the follow list says that stands in the payload from `from` on?
 pub fn can_fill(
     file: &[u8],
     from: usize,
-    part: &[u8],
-    n: usize,
+    list: &[u8],
     size: usize,
     r: Robot,
     j: usize,
     behind: u8,
 ) -> bool
-    requires { (n + 1 ≡ size) × (size ≤ length part.now) × (size ≤ 128) × (j < size) × (from + size ≤ length file.now / 512 * 504) }
-    ensures { (len : ℕ) → len ≤ length file.now / 512 * 504 → from + size ≤ len → result ≡ clique_enters size (take n part.now) r.0 j behind (held_part file.now len from size) }
+    requires { (length list.now + 1 ≡ size) × (size ≤ 128) × (j < size) × (from + size ≤ length file.now / 512 * 504) }
+    ensures { (len : ℕ) → len ≤ length file.now / 512 * 504 → from + size ≤ len → result ≡ clique_enters size list.now r.0 j behind (held_part file.now len from size) }
 {
     if behind != 255 {
         return false;
     }
-    let mut list = [0u8; 128];
-    list_met_in(file, from, part, n, r.0, j, &mut list[..size])
+    let mut follow = [0u8; 128];
+    list_met_in(file, from, list, r.0, j, &mut follow[..size])
 }
 
 // How far a filled ring of n places is turned, where the robot at index t is to come to place j.

@@ -1,5 +1,5 @@
-// The goals of a zone tested by the list of its robots, the first n of a part.
-ghost use Rattle.std.specs.Prelude.{◌≡◌, ◌≤◌, length, take};
+// The goals of a zone tested by the list of its robots.
+ghost use Rattle.std.specs.Prelude.{◌≡◌};
 ghost use Rattle.spec.specs.Ring.{turned};
 ghost use Rattle.numbering.specs.Kind.{number_of};
 ghost use Rattle.orders.specs.Orders.{end_test};
@@ -24,12 +24,10 @@ fn is_turned(list: &[u8], goal: &mut [u8]) -> bool
 }
 
 // Are the goals, whose robots in order are `goal`, in the configuration? A ring's are turned in their bytes.
-pub fn can_end(kind: ZoneKind, part: &[u8], n: usize, size: usize, goal: &mut [u8]) -> bool
-    requires { (n ≤ size) × (size ≤ length part.now) × (length goal.old ≤ 128) }
-    ensures { result ≡ end_test (number_of kind) size (take n part.now) goal.old }
+pub fn can_end(kind: ZoneKind, list: &[u8], size: usize, goal: &mut [u8]) -> bool
+    ensures { result ≡ end_test (number_of kind) size list.now goal.old }
 {
-    let list = &part[..n];
-    if n == size {
+    if list.len() == size {
         return same_cells(list, goal);
     }
     match kind {

@@ -34,6 +34,7 @@ fn can_go(kind: ZoneKind, n: usize, size: usize, x: Robot, r: Robot, t: usize, j
 }
 
 // "Leaving needs a reachable arrangement with the cart at from": where robot r, that is to leave at place j, stands in the list, if it can leave.
+// The part comes with a count, not cut to the list: place j's byte is read even past the list's end, so that nothing branches on it.
 pub fn leave_index(
     kind: ZoneKind,
     part: &[u8],

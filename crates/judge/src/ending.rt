@@ -55,18 +55,12 @@ fn ends_zone(map: &MapTables, z: Zone, lists: &Lists, goals: &State) -> bool
     requires { ZoneOn map.now z.0 × HasListOn map.now lists.now z.0 }
     ensures { result ≡ end_test (get_or map.now.kind z.0 0) (get_or map.now.size z.0 0) (list_in map.now.first lists.now.counts lists.now.cells z.0) (order (meaning.arrangement_of goals.now (part_of map.now z.0))) }
 {
-    let part = &lists.cells[map.first_of(z)..];
     let count = lists.counts[z.0 as usize] as usize;
+    let list = &lists.cells[map.first_of(z)..][..count];
     let mut robots = [0u8; 128];
     let mut places = [0u8; 128];
     let n = line_up(goals, map.vertices_of(z), &mut robots, &mut places);
-    can_end(
-        map.kind_of(z),
-        part,
-        count,
-        map.size_of(z),
-        &mut robots[..n],
-    )
+    can_end(map.kind_of(z), list, map.size_of(z), &mut robots[..n])
 }
 
 // The lowest zone that can't be brought to its goals.

@@ -111,6 +111,16 @@ pub record ListRead (a b c : List ℕ) (map : MapTables) (placing : PlacingTable
   pub robots : PlacingHeld placing it.placing
   pub ends : EndsOn it.graph (file_bytes c) n
 
+-- the blocks of a map have passed, and its payload has len bytes
+pub record MapFiled (a : List ℕ) (len : ℕ) : Type 0 where
+  pub read : payload_of 10 1 9 a ≡ ok (take len (payload a))
+  pub whole : Whole 9 a len
+
+-- they have, or one is refused
+abbrev pub FiledIs : List ℕ → Result ℕ Refusal → Type 0
+FiledIs a (Ok len) = MapFiled a len
+FiledIs a (Err e) = payload_of 10 1 9 a ≡ refused e
+
 -- a map and a placing that are accepted, as the code holds them
 pub record YardRead (a b : List ℕ) (map : MapTables) (placing : PlacingTables) (rows : List (List ℕ)) : Type 0 where
   pub it : Instance

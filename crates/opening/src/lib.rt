@@ -3,7 +3,7 @@
 
 ghost use Rattle.std.specs.Prelude.{◌≡◌};
 ghost use Rattle.adjacency.specs.Rows.{blank};
-ghost use Rattle.opening.specs.Opened.{OpenedIs, YardIs};
+ghost use Rattle.opening.specs.Opened.{FiledIs, MapFiled, OpenedIs, YardIs};
 
 use checking::check_file;
 use layout::{MapTables, read_map};
@@ -25,12 +25,25 @@ pub struct Opened {
     pub count: usize,
 }
 
-// Reads map and placing; the rows are the map's edges.
-pub fn read_yard(map: &[u8], placed: &[u8], rows: &mut [[u64; 2]; 128]) -> Result<Yard, Refusal>
-    requires { rows.old ≡ blank }
-    ensures { YardIs map.now placed.now rows.new result }
+// How long the payload of a map is whose blocks have passed. Asked before rows and tables are made ready, which a refusal here does not need.
+pub fn check_map(map: &[u8]) -> Result<usize, Refusal>
+    ensures { FiledIs map.now result }
 {
     let len = check_file(map, 1, 9).map_err(Refusal::MapFile)?;
+    Ok(len)
+}
+
+// Reads map and placing, where the map's blocks have passed; the rows are the map's edges.
+pub fn read_yard(
+    map: &[u8],
+    len: usize,
+    placed: &[u8],
+    rows: &mut [[u64; 2]; 128],
+) -> Result<Yard, Refusal>
+    requires filed { MapFiled map.now len }
+    requires blank { rows.old ≡ blank }
+    ensures { YardIs map.now placed.now rows.new result }
+{
     let tables = read_map(map, len, rows)?;
     let placing = read_placing(placed, tables.vertices())?;
     Ok(Yard {
@@ -43,8 +56,9 @@ pub fn read_yard(map: &[u8], placed: &[u8], rows: &mut [[u64; 2]; 128]) -> Resul
 pub fn open_list(map: &[u8], placed: &[u8], moves: &[u8]) -> Result<Opened, Refusal>
     ensures { OpenedIs map.now placed.now moves.now result }
 {
+    let filed = check_map(map)?;
     let mut rows = [[0u64; 2]; 128];
-    let yard = read_yard(map, placed, &mut rows)?;
+    let yard = read_yard(map, filed, placed, &mut rows)?;
     let len = check_file(moves, 4, 128).map_err(Refusal::ListFile)?;
     let n = yard.map.vertices();
     let PlacingTables {

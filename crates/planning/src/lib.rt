@@ -7,7 +7,7 @@ ghost use Rattle.planning.specs.Planned.{ClearedIs, JudgedIs, PlannedIs};
 use answers::Undelivered;
 use checking::check_file;
 use judge::judge_plan;
-use opening::{Yard, read_yard};
+use opening::{Yard, check_map, read_yard};
 use placing::PlacingTables;
 use refusals::Refusal;
 use resolve::resolve_plan;
@@ -16,8 +16,9 @@ use resolve::resolve_plan;
 fn read_cleared(map: &[u8], placed: &[u8], plan: &[u8]) -> Result<Yard, Refusal>
     ensures { ClearedIs map.now placed.now plan.now result }
 {
+    let filed = check_map(map)?;
     let mut rows = [[0u64; 2]; 128];
-    let yard = read_yard(map, placed, &mut rows)?;
+    let yard = read_yard(map, filed, placed, &mut rows)?;
     let len = check_file(plan, 3, 64).map_err(Refusal::PlanFile)?;
     let PlacingTables {
         robots,

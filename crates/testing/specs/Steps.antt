@@ -219,18 +219,14 @@ StepTested f len o n k kind first size listed zone place rows counts cells q = M
 
 -- ---- the entry, by what the code finds
 
-module _ (f : List ℕ) (len o kind n : ℕ) (part : List ℕ) (size r j behind : ℕ) (most : len ≤ length f / 512 * 504) (within : o + 4 ≤ len) (long : n ≤ length part) where
-  -- the list is as long as it is counted
-  counts : length (take n part) ≡ n
-  counts = length-take-le n part long
-
+module _ (f : List ℕ) (len o kind n : ℕ) (robots : List ℕ) (size r j behind : ℕ) (most : len ≤ length f / 512 * 504) (within : o + 4 ≤ len) (counts : length robots ≡ n) where
   -- the zone is full
-  pub entry_none : n ≡ size → EntryIs f len o kind (take n part) size r j behind (λ i. refuse 39 i)
+  pub entry_none : n ≡ size → EntryIs f len o kind robots size r j behind (λ i. refuse 39 i)
   entry_none q b p h l i = entry_full kind b _ i o r j behind (is_full kind _ b p h size n l counts q)
 
   module _ (free : n ≡ size → ⊥) (e : ℕ) (x : e ≡ extra_on kind size n) where
     -- the follow list is not all there
-    pub entry_cut : len < o + 4 + e → EntryIs f len o kind (take n part) size r j behind (λ i. refuse 35 i)
+    pub entry_cut : len < o + 4 + e → EntryIs f len o kind robots size r j behind (λ i. refuse 35 i)
     entry_cut q b p h l i = entry_short kind b _ i o r j behind (not_full kind _ b p h size n l counts free) e (x ∙ extra_is kind _ b p h size n l counts) (omega (arith, held_length f len most))
 
     module _ (all : o + 4 + e ≤ len) (inside : j < size) where
@@ -239,23 +235,23 @@ module _ (f : List ℕ) (len o kind n : ℕ) (part : List ℕ) (size r j behind 
       listed = length-take-le e (drop (o + 4) (take len (payload f))) (omega (arith, length-drop (o + 4) (take len (payload f)), held_length f len most))
 
       -- what the test of behind and the follow list says, by the list
-      said : (b : Arrangement) → Proper b → Holds kind (take n part) b → length b ≡ size → (y : Bool) → enter_test kind size (take n part) r j behind (held_part f len (o + 4) e) ≡ y
+      said : (b : Arrangement) → Proper b → Holds kind robots b → length b ≡ size → (y : Bool) → enter_test kind size robots r j behind (held_part f len (o + 4) e) ≡ y
           → can_enter kind b r j behind (held_part f len (o + 4) e) ≡ y
       said b p h l y q = sym (enters_by kind _ b p h size n l counts r j behind (held_part f len (o + 4) e) inside free (listed ∙ x)) ∙ q
 
       -- it is unmet
-      pub entry_off : enter_test kind size (take n part) r j behind (held_part f len (o + 4) e) ≡ false → EntryIs f len o kind (take n part) size r j behind (λ i. refuse 39 i)
+      pub entry_off : enter_test kind size robots r j behind (held_part f len (o + 4) e) ≡ false → EntryIs f len o kind robots size r j behind (λ i. refuse 39 i)
       entry_off q b p h l i = entry_unmet kind b _ i o r j behind (not_full kind _ b p h size n l counts free) e (x ∙ extra_is kind _ b p h size n l counts) (omega (arith, held_length f len most)) (said b p h l false q)
 
       -- it is met
-      pub entry_on_lem : enter_test kind size (take n part) r j behind (held_part f len (o + 4) e) ≡ true → EntryIs f len o kind (take n part) size r j behind (λ i. ok e)
+      pub entry_on_lem : enter_test kind size robots r j behind (held_part f len (o + 4) e) ≡ true → EntryIs f len o kind robots size r j behind (λ i. ok e)
       entry_on_lem q b p h l i = entry_met kind b _ i o r j behind (not_full kind _ b p h size n l counts free) e (x ∙ extra_is kind _ b p h size n l counts) (omega (arith, held_length f len most)) (said b p h l true q)
 
       -- the test where a clique is filled
-      pub entry_fills : (e ≡ 0 → ⊥) → (y : Bool) → y ≡ clique_enters size (take n part) r j behind (held_part f len (o + 4) size) → enter_test kind size (take n part) r j behind (held_part f len (o + 4) e) ≡ y
+      pub entry_fills : (e ≡ 0 → ⊥) → (y : Bool) → y ≡ clique_enters size robots r j behind (held_part f len (o + 4) size) → enter_test kind size robots r j behind (held_part f len (o + 4) e) ≡ y
       entry_fills z y q =
           let w = extra_some kind size n e x z in
-          sym (clique_enters_lem kind w.0 size (take n part) r j behind (held_part f len (o + 4) e)) ∙ ap (λ (g : ℕ). clique_enters size (take n part) r j behind (held_part f len (o + 4) g)) w.2 ∙ sym q
+          sym (clique_enters_lem kind w.0 size robots r j behind (held_part f len (o + 4) e)) ∙ ap (λ (g : ℕ). clique_enters size robots r j behind (held_part f len (o + 4) g)) w.2 ∙ sym q
 
 -- ---- the step, by what the code finds
 

@@ -1,5 +1,5 @@
 // The tests of a step on the lists: every check in document 01's order, and no move is made.
-ghost use Rattle.std.specs.Prelude.{◌≡◌, ◌+◌, ◌*◌, ◌/◌, ◌≤◌, ◌<◌, length, take};
+ghost use Rattle.std.specs.Prelude.{◌≡◌, ◌+◌, ◌*◌, ◌/◌, ◌≤◌, ◌<◌, length};
 ghost use Rattle.numbering.specs.Kind.{number_of};
 ghost use Rattle.orders.specs.Orders.{leave_test};
 ghost use Rattle.walking.specs.OnMap.{kind_on, place_on};
@@ -42,18 +42,18 @@ fn list_length(kind: ZoneKind, n: usize, size: usize) -> usize
     0
 }
 
-// Robot r's entry at a spot of a zone whose list is the first of the part: "full target, follow list present, 39".
+// Robot r's entry at a spot of a zone with these robots inside: "full target, follow list present, 39".
 fn test_entry(
     file: &[u8],
     len: usize,
     o: usize,
     at: Spot,
-    part: &[u8],
+    inside: &[u8],
     r: Robot,
     behind: u8,
 ) -> Result<Entry, StepFault>
-    requires { (len ≤ length file.now / 512 * 504) × (o + 4 ≤ len) × (at.count ≤ at.size) × (at.size ≤ length part.now) × (at.size ≤ 128) × (at.place < at.size) }
-    ensures { EntryTested file.now len o (number_of at.kind) at.count (take at.count part.now) at.size r.0 at.place behind result }
+    requires { (len ≤ length file.now / 512 * 504) × (o + 4 ≤ len) × (length inside.now ≡ at.count) × (at.count ≤ at.size) × (at.size ≤ 128) × (at.place < at.size) }
+    ensures { EntryTested file.now len o (number_of at.kind) at.count inside.now at.size r.0 at.place behind result }
 {
     let Spot {
         kind,
@@ -71,10 +71,10 @@ fn test_entry(
         return Err(StepFault::Short);
     }
     if list == 0 {
-        let into = entry_at(kind, part, n, size, j, behind).ok_or(StepFault::Enter)?;
+        let into = entry_at(kind, inside, size, j, behind).ok_or(StepFault::Enter)?;
         return Ok(Entry { into, list });
     }
-    if can_fill(file, o + 4, part, n, size, r, j, behind) {
+    if can_fill(file, o + 4, inside, size, r, j, behind) {
         return Ok(Entry { into: 0, list });
     }
     Err(StepFault::Enter)
@@ -96,7 +96,8 @@ fn test_entry_at(
     ensures { EntryTested file.now len o (kind_on map.now v.0) (count_on map.now lists.now v.0) (list_on map.now lists.now v.0) (size_on map.now v.0) r.0 (place_on map.now v.0) behind result }
 {
     let at = lists.spot(map, v);
-    test_entry(file, len, o, at, &lists.cells[at.first..], r, behind)
+    let inside = &lists.cells[at.first..][..at.count];
+    test_entry(file, len, o, at, inside, r, behind)
 }
 
 // The tests of the step at offset o of the payload, for k robots.

@@ -1,15 +1,23 @@
 use native.Mathlib.Omega.{arith}
-use mathlib.Core.Path.{sym, ◌∙◌}
+use mathlib.Core.Path.{refl, sym, ◌∙◌}
 use Rattle.std.proofs.lemmas.Result.{err_from_is_err_and}
 use Rattle.checking.specs.Checked.{held_as}
 use Rattle.refusals.specs.Refusals as told
 use Rattle.refusals.specs.declared.Refusal.TheVariants.{ListFile}
-use Rattle.opening.specs.Opened.{opened_yard, opened_file, opened_list, opened_all}
+use Rattle.opening.specs.Opened.{file_refused, opened_yard, opened_file, opened_list, opened_all}
 use Rattle.opening.proofs.open_list.Goals as goal
+
+pub returns-in_err-filed : goal.returns-in_err-filed
+returns-in_err-filed c =
+    let p = err_from_is_err_and c.from_residual.result c.from_residual.ensures.1 in
+    rw (p.1, p.2) (opened_yard c.args.map.now c.args.placed.now c.args.moves.now _ (file_refused _ _ _ c.in_err-filed.ensures))
+
+pub read_yard-requires : goal.read_yard-requires
+read_yard-requires c = record { filed = c.in_ok-filed.ensures; blank = refl }
 
 pub returns-in_err-yard : goal.returns-in_err-yard
 returns-in_err-yard c =
-    let p = err_from_is_err_and c.from_residual.result c.from_residual.ensures.1 in
+    let p = err_from_is_err_and c.from_residual-in_err-yard.result c.from_residual-in_err-yard.ensures.1 in
     rw (p.1, p.2) (opened_yard c.args.map.now c.args.placed.now c.args.moves.now _ c.in_err-yard.ensures)
 
 pub returns-in_err-len : goal.returns-in_err-len

@@ -1,5 +1,6 @@
 use native.Mathlib.Omega.{arith}
-use Rattle.std.proofs.Common.{sym}
+use Rattle.std.proofs.Common.{refl, sym}
+use Rattle.opening.specs.Opened.{file_refused}
 use Rattle.std.proofs.lemmas.Result.{err_from_is_err_and}
 use Rattle.checking.specs.Checked.{held_as}
 use Rattle.refusals.specs.Refusals as told
@@ -7,9 +8,17 @@ use Rattle.refusals.specs.declared.Refusal.TheVariants.{PlanFile}
 use Rattle.planning.specs.Planned.{yard_given, yard_placement, cleared_yard, cleared_file, cleared_plan, cleared_all}
 use Rattle.planning.proofs.read_cleared.Goals as goal
 
+pub returns-in_err-filed : goal.returns-in_err-filed
+returns-in_err-filed c =
+    let p = err_from_is_err_and c.from_residual.result c.from_residual.ensures.1 in
+    rw (p.1, p.2) (cleared_yard c.args.map.now c.args.placed.now c.args.plan.now _ (file_refused _ _ _ c.in_err-filed.ensures))
+
+pub read_yard-requires : goal.read_yard-requires
+read_yard-requires c = record { filed = c.in_ok-filed.ensures; blank = refl }
+
 pub returns-in_err-yard : goal.returns-in_err-yard
 returns-in_err-yard c =
-    let p = err_from_is_err_and c.from_residual.result c.from_residual.ensures.1 in
+    let p = err_from_is_err_and c.from_residual-in_err-yard.result c.from_residual-in_err-yard.ensures.1 in
     rw (p.1, p.2) (cleared_yard c.args.map.now c.args.placed.now c.args.plan.now _ c.in_err-yard.ensures)
 
 pub returns-in_err-len : goal.returns-in_err-len

@@ -19,9 +19,6 @@ returns-then-x-eq0 c =
     (to_rest _ o.cells g c.open_target-q.result c.lowest_off-x.result (omega arith) here c.if-q-cells.false c.lowest_off-x.ensures c.if-x-eq0.true)
     ∙ o.invariant.moves
 
-pub go-i-requires : goal.go-i-requires
-go-i-requires c = omega (arith, c.if-q-cells.true, c.loop.auto.cells, c.requires.0)
-
 pub go-from-requires : goal.go-from-requires
 go-from-requires c = let o = c.loop in omega (arith, (seek_empty o.cells c.first_empty-j.result c.first_empty-j.ensures).1, o.auto.cells, c.requires.0)
 

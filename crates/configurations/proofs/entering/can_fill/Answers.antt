@@ -2,7 +2,6 @@ use native.Mathlib.Omega.{arith}
 use Prim.Native.Nat.{ℕ}
 use mathlib.Core.Path.{◌≡◌, sym, ap, ◌∙◌}
 use lib.ListN.{length, take, replicate}
-use lib.Seq.{length-take-le}
 use Rattle.comparing.specs.Comparing.{cells_length}
 use Rattle.orders.specs.Orders.{list_met}
 use Rattle.walking.specs.Held.{held_part}
@@ -13,26 +12,22 @@ pub returns-then-behind-ne255 : goal.returns-then-behind-ne255
 returns-then-behind-ne255 c =
     λ len h g.
     let a = c.args in
-    clique_named (take a.n a.part.now) a.r.0 a.j (held_part a.file.now len a.from a.size) a.size a.behind c.if-behind-ne255.true
-
-pub slice_bounds-list-end : goal.slice_bounds-list-end
-slice_bounds-list-end c = c.requires.2
+    clique_named a.list.now a.r.0 a.j (held_part a.file.now len a.from a.size) a.size a.behind c.if-behind-ne255.true
 
 pub slice_bounds-list_met_in-end : goal.slice_bounds-list_met_in-end
-slice_bounds-list_met_in-end c = sym (cells_length c.args.size c.requires.2)
+slice_bounds-list_met_in-end c = sym (cells_length c.args.size c.requires.1)
 
 pub list_met_in-requires : goal.list_met_in-requires
 list_met_in-requires c =
     let a = c.args in
-    let z : length {A = ℕ} (take a.size (replicate 128 0)) ≡ a.size = cells_length a.size c.requires.2 in
-    (omega (arith, c.requires), omega (arith, c.requires), z ∙ sym c.requires.0, omega (arith, z, c.requires))
+    let z : length {A = ℕ} (take a.size (replicate 128 0)) ≡ a.size = cells_length a.size c.requires.1 in
+    (omega (arith, c.requires), z ∙ sym c.requires.0, omega (arith, z, c.requires))
 
 pub returns : goal.returns
 returns c =
     λ len h g.
     let a = c.args in
-    let l = take a.n a.part.now in
-    let q : length l ≡ a.n = length-take-le a.n a.part.now (omega (arith, c.requires)) in
-    let z : length {A = ℕ} (take a.size (replicate 128 0)) ≡ a.size = cells_length a.size c.requires.2 in
+    let l = a.list.now in
+    let z : length {A = ℕ} (take a.size (replicate 128 0)) ≡ a.size = cells_length a.size c.requires.1 in
     c.list_met_in.ensures len h (omega (arith, z)) ∙ ap (λ (x : ℕ). list_met l a.r.0 a.j (held_part a.file.now len a.from x)) z
-    ∙ clique_fills l a.r.0 a.j (held_part a.file.now len a.from a.size) a.size a.behind c.if-behind-ne255.false (omega (arith, q, c.requires.0))
+    ∙ clique_fills l a.r.0 a.j (held_part a.file.now len a.from a.size) a.size a.behind c.if-behind-ne255.false c.requires.0

@@ -1,7 +1,6 @@
 use mathlib.Core.List.{List}
 use Prim.Native.Nat.{ℕ}
 use mathlib.Core.Path.{ap, ◌∙◌}
-use lib.ListN.{take}
 use Rattle.orders.specs.Orders.{list_met}
 use Rattle.configurations.proofs.entering.list_met_in.Goals as goal
 
@@ -9,4 +8,4 @@ pub returns : goal.returns
 returns c =
     λ len h g.
     let a = c.args in
-    c.list_met.ensures ∙ ap (λ (l : List ℕ). list_met (take a.n a.part.now) a.r a.j l) (c.copy_list.ensures len h g)
+    c.list_met.ensures ∙ ap (λ (l : List ℕ). list_met a.list.now a.r a.j l) (c.copy_list.ensures len h g)
