@@ -9,7 +9,7 @@ pub use services::{galzpuna_draw, galzpuna_judge, galzpuna_resolve, galzpuna_rou
 
 // What a service returns: the number, and the place of a refusal or the bytes written.
 #[repr(C)]
-#[derive(Clone, Copy)]
+#[derive(Clone, Copy, Debug, PartialEq, Eq)]
 pub struct Answer {
     pub number: u32,
     pub place: u32,

@@ -82,18 +82,15 @@ place_of (refusal.Answer f) = 0
 abbrev pub refused : {A : Type 0} → Refusal → Outcome A
 refused r = refuse (number_of r) (place_of r)
 
--- what a result is in the words of document 01
-abbrev pub outcome_of : {A B : Type 0} → (A → B) → Result A Refusal → Outcome B
-outcome_of f r = chain.outcome_of number_of place_of f r
+-- ---- a file's check whose fault is told
 
 -- a check that came out well did so before its faults were told
-pub told_ok : {F : Type 0} (r : Result ℕ F) (n : ℕ) → MatchResult r (λ m. ◌≡◌ {A = Result ℕ Refusal} (Ok n) (Ok m)) (λ e. ⊥) → r ≡ Ok n
+told_ok : {F : Type 0} (r : Result ℕ F) (n : ℕ) → MatchResult r (λ m. ◌≡◌ {A = Result ℕ Refusal} (Ok n) (Ok m)) (λ e. ⊥) → r ≡ Ok n
 told_ok (Ok m) n w = cc
 told_ok (Err e) n w = absurd w
 
--- ---- each fault is refused as its own crate says
-
 module _ (f : List ℕ) where
+  -- each fault is refused as the check of its kind of file says
   pub map_file_refused : (e : FileFault) → checked_of 10 f (Err e) ≡ refused (refusal.MapFile e)
   map_file_refused file.Length = refl
   map_file_refused (file.Checksum i) = refl
@@ -125,22 +122,10 @@ module _ (f : List ℕ) where
     pub file_read : (n : ℕ) → MatchResult r (λ m. ◌≡◌ {A = Result ℕ Refusal} (Ok n) (Ok m)) (λ e. ⊥) → (r ≡ Ok n) × (payload_of base kind limit f ≡ ok (take n (payload f)))
     file_read n w = let x = told_ok r n w in (x, sym c ∙ ap (checked_of base f) x)
 
-pub map_refused : {A B : Type 0} (v : A → B) (e : MapFault) → mapFault.answered v (Err e) ≡ refused (refusal.Map e)
-map_refused v e = refl
-
-pub placing_refused : {A B : Type 0} (v : A → B) (e : PlacingFault) → placingFault.answered v (Err e) ≡ refused (refusal.Placing e)
-placing_refused v e = refl
-
-pub plan_refused : {A : Type 0} (e : PlanFault) → planFault.refused {A = A} e ≡ refused (refusal.Plan e)
-plan_refused e = refl
-
+-- a move list's fault is refused as its check says
 pub list_refused : {A : Type 0} (e : ListFault) → refused_for {A = A} e ≡ refused (refusal.List e)
 list_refused (list.Short i) = refl
 list_refused (list.Number i) = refl
 list_refused (list.Edge i) = refl
 list_refused (list.Standing i) = refl
 list_refused (list.Goal r) = refl
-
-pub answer_refused : (e : Undelivered) (o : List ℕ) → answered (Err e) o ≡ record { number = number_of (refusal.Answer e); value = place_of (refusal.Answer e); buffer = o }
-answer_refused answer.TooLong o = refl
-answer_refused answer.NoRoom o = refl

@@ -8,7 +8,7 @@ use std::io;
 pub fn told(rt: &impl Print, name: &str, a: Answer, number: u32, place: u32) -> u32
     ensures { result ≤ 1 }
 {
-    if a.number == number && a.place == place {
+    if a == (Answer { number, place }) {
         return said(println!(rt; "{name}: ok"), 0);
     }
     let got = a.number;

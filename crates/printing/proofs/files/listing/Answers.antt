@@ -5,16 +5,16 @@ use Rattle.printing.proofs.files.listing.Goals as goal
 
 pub returns-then-number-ne0 : goal.returns-then-number-ne0
 returns-then-number-ne0 c =
-    record { put = put_as (sym (listed_refused _ _ _ _ c.galzpuna_resolve.ensures c.if-number-ne0.true)) c.put_refusal.ensures.put; upper_bound = c.put_refusal.ensures.upper_bound }
+    record { put = put_as (sym (listed_refused _ _ _ _ c.galzpuna_resolve-number.ensures c.if-number-ne0.true)) c.put_refusal.ensures.put; upper_bound = c.put_refusal.ensures.upper_bound }
 
 pub slice_bounds-moves-end : goal.slice_bounds-moves-end
-slice_bounds-moves-end c = let l = listed_size _ _ _ (λ i. omega (arith, c.shared_slice_known-3-1.given i)) _ c.galzpuna_resolve.ensures c.if-number-ne0.false in omega arith
+slice_bounds-moves-end c = let l = listed_size _ _ _ (λ i. omega (arith, c.type_inv.plan i)) _ c.galzpuna_resolve-number.ensures c.if-number-ne0.false in omega arith
 
 pub slice_bounds-galzpuna_rounds-end : goal.slice_bounds-galzpuna_rounds-end
-slice_bounds-galzpuna_rounds-end c = let l = listed_size _ _ _ (λ i. omega (arith, c.shared_slice_known-3-1.given i)) _ c.galzpuna_resolve.ensures c.if-number-ne0.false in sym (length-take-le _ _ (omega arith))
+slice_bounds-galzpuna_rounds-end c = let l = listed_size _ _ _ (λ i. omega (arith, c.type_inv.plan i)) _ c.galzpuna_resolve-number.ensures c.if-number-ne0.false in sym (length-take-le _ _ (omega arith))
 
 pub put_moves-requires : goal.put_moves-requires
-put_moves-requires c = listed_few _ _ _ (λ i. omega (arith, c.shared_slice_known-3-1.given i)) _ c.galzpuna_resolve.ensures c.if-number-ne0.false _ c.galzpuna_rounds.ensures _ c.payload_word-count.ensures.0
+put_moves-requires c = listed_few _ _ _ (λ i. omega (arith, c.type_inv.plan i)) _ c.galzpuna_resolve-number.ensures c.if-number-ne0.false _ c.galzpuna_rounds.ensures _ c.payload_word-count.ensures.0
 
 pub returns : goal.returns
-returns c = record { put = put_as (listed_moves_lem _ _ _ (λ i. omega (arith, c.shared_slice_known-3-1.given i)) _ c.galzpuna_resolve.ensures c.if-number-ne0.false _ c.galzpuna_rounds.ensures _ c.payload_word-count.ensures.0) c.put_moves.ensures.put; upper_bound = c.put_moves.ensures.upper_bound }
+returns c = record { put = put_as (listed_moves_lem _ _ _ (λ i. omega (arith, c.type_inv.plan i)) _ c.galzpuna_resolve-number.ensures c.if-number-ne0.false _ c.galzpuna_rounds.ensures _ c.payload_word-count.ensures.0) c.put_moves.ensures.put; upper_bound = c.put_moves.ensures.upper_bound }
