@@ -78,6 +78,33 @@ taken_out p q n t h l e under over past = record { long = e; here = same; past =
     same : take (length (without t (take n p))) q ≡ without t (take n p)
     same = ext_get_or 0 _ _ cut (λ k x. get_or-take (length (without t (take n p))) q k 0 (omega (arith, cut)) ∙ at k (omega (arith, cut, short)) (dec_lt k t))
 
+-- of one robot or two at most one is left, and stands first
+pub pair_left : (p q : List ℕ) (n t : ℕ) → t < n → n ≤ 2 → n ≤ length p → length q ≡ length p → (n ≡ 2 → get_or q 0 0 ≡ get_or p (1 - t) 0)
+    → ((k : ℕ) → 0 < k → get_or q k 0 ≡ get_or p k 0) → Rewritten p n (without t (take n p)) q
+pair_left p q n t h b l e first rest = record { long = e; here = same; past = λ k x. rest k (omega arith) }
+  where
+    long : length (take n p) ≡ n
+    long = length-take-le n p l
+
+    short : length (without t (take n p)) ≡ n - 1
+    short = without_length t (take n p) (omega (arith, long)) ∙ ap (λ (x : ℕ). x - 1) long
+
+    cut : length (take (length (without t (take n p))) q) ≡ length (without t (take n p))
+    cut = length-take-le _ q (omega (arith, short, e))
+
+    at : (k : ℕ) → k < n - 1 → Dec (k < t) → get_or q k 0 ≡ get_or (without t (take n p)) k 0
+    at k x (yes y) =
+        let z : 1 - t ≡ k = omega arith in
+        let f : k ≡ 0 = omega arith in
+        ap (λ (i : ℕ). get_or q i 0) f ∙ first (omega arith) ∙ ap (λ (i : ℕ). get_or p i 0) z ∙ sym (get_or-take n p k 0 (omega arith)) ∙ sym (without_under t (take n p) k (omega (arith, long)) y)
+    at k x (no y) =
+        let z : 1 - t ≡ k + 1 = omega arith in
+        let f : k ≡ 0 = omega arith in
+        ap (λ (i : ℕ). get_or q i 0) f ∙ first (omega arith) ∙ ap (λ (i : ℕ). get_or p i 0) z ∙ sym (get_or-take n p (k + 1) 0 (omega arith)) ∙ sym (without_over t (take n p) k (omega (arith, long)) (omega arith))
+
+    same : take (length (without t (take n p))) q ≡ without t (take n p)
+    same = ext_get_or 0 _ _ cut (λ k x. get_or-take (length (without t (take n p))) q k 0 (omega (arith, cut)) ∙ at k (omega (arith, cut, short)) (dec_lt k t))
+
 -- ---- an element put in
 
 -- a list with an element more, element by element

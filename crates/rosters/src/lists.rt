@@ -3,11 +3,18 @@ ghost use Rattle.std.specs.Prelude.{◌≡◌, ◌+◌, ◌≤◌, ◌<◌, leng
 ghost use Rattle.orders.specs.Orders.{without, put_in};
 ghost use Rattle.rosters.specs.Lists.{Rewritten};
 
-// Takes the robot at index t out of the first n.
+// Takes the robot at index t out of the first n. A list of one or two needs no loop, and the pair no branch.
 pub fn remove(part: &mut [u8], n: usize, t: usize)
     requires { (t < n) × (n ≤ length part.old) }
     ensures { Rewritten part.old n (without t (take n part.old)) part.new }
 {
+    if n == 1 {
+        return;
+    }
+    if n == 2 {
+        part[0] = part[1 - t];
+        return;
+    }
     part.copy_within(t + 1..n, t);
 }
 
