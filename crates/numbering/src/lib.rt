@@ -1,7 +1,7 @@
 // Points, zones and carts are three separate numberings (document 01): a robot's number can't index a table of vertices.
 #![tactic(auto)]
 
-ghost use Rattle.std.specs.Prelude.{◌≡◌};
+ghost use Rattle.std.specs.Prelude.{◌≡◌, ◌≤◌, length};
 ghost use Rattle.numbering.specs.Kind.{number_of, least_of, Decodes};
 
 // A point.
@@ -15,6 +15,13 @@ pub struct Zone(pub u8);
 // A cart; 255 is no robot.
 #[derive(Clone, Copy, Debug, PartialEq, Eq, PartialOrd, Ord)]
 pub struct Robot(pub u8);
+
+// The vertices of a zone in listed order, at most 128.
+#[derive(Clone, Copy)]
+pub struct ZoneVertices<'a> {
+    pub vertices: &'a [u8],
+    pub ghost short: { length vertices.now ≤ 128 },
+}
 
 // A zone's kind.
 #[derive(Clone, Copy, Debug, PartialEq, Eq)]
