@@ -4,7 +4,7 @@ ghost use Rattle.numbering.specs.Kind.{number_of};
 ghost use Rattle.layout.specs.Lists.{HasPart, part_of};
 
 use crate::MapTables;
-use numbering::{Vertex, Zone, ZoneKind};
+use numbering::{Vertex, Zone, ZoneKind, ZoneVertices};
 
 // Entry i of a table, `none` past its end.
 fn entry<const N: usize>(table: &[u8; N], i: usize, none: u8) -> u8
@@ -80,12 +80,14 @@ impl MapTables {
     }
 
     // The vertices of a zone in listed order.
-    pub fn vertices_of(&self, z: Zone) -> &[u8]
+    pub fn vertices_of(&self, z: Zone) -> ZoneVertices<'_>
         requires { HasPart self.now z.0 }
-        ensures { result.now ≡ part_of self.now z.0 }
+        ensures { result.vertices.now ≡ part_of self.now z.0 }
     {
         let i = z.0 as usize;
         let a = self.first[i] as usize;
-        &self.listed[a..a + self.size[i] as usize]
+        ZoneVertices {
+            vertices: &self.listed[a..a + self.size[i] as usize],
+        }
     }
 }
