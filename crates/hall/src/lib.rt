@@ -16,7 +16,7 @@ mod trips;
 use lineup::goals::{index_of, lower_than, spread};
 use lineup::line::line_up;
 use motion::State;
-use numbering::Robot;
+use numbering::{Place, Robot, ZoneVertices};
 use trips::settle;
 
 // The robots of a hall make way at place j: `below` says of their line how many go below it, and m go onto it.
@@ -24,16 +24,14 @@ use trips::settle;
 fn make_way<F: Fn(&[u8]) -> usize>(
     state: &mut State,
     count: usize,
-    zone: &[u8],
+    zone: ZoneVertices,
     below: F,
     m: usize,
-    j: usize,
+    j: Place,
     out: &mut [u8],
 ) -> usize
-    requires long { length zone.now ≤ 128 }
-    requires place { j < 128 }
     requires called { F.IsAlwaysCallable below }
-    ensures { (t : ℕ) × FnReturnsAt F.Fn below (order (arrangement_of state.old zone.now)) t × (world state.new result out.new ≡ made_all (world state.old count out.old) (across zone.now (way_at (arrangement_of state.old zone.now) t m j))) }
+    ensures { (t : ℕ) × FnReturnsAt F.Fn below (order (arrangement_of state.old zone.entry.vertices.now)) t × (world state.new result out.new ≡ made_all (world state.old count out.old) (across zone.entry.vertices.now (way_at (arrangement_of state.old zone.entry.vertices.now) t m j.index))) }
 {
     let mut line = [0u8; 128];
     let mut places = [0u8; 128];
@@ -44,7 +42,7 @@ fn make_way<F: Fn(&[u8]) -> usize>(
     settle(
         state,
         count,
-        zone,
+        zone.vertices,
         &line[..n],
         &places[..n],
         &goals[..n],
@@ -56,13 +54,12 @@ fn make_way<F: Fn(&[u8]) -> usize>(
 pub fn leave(
     state: &mut State,
     count: usize,
-    zone: &[u8],
+    zone: ZoneVertices,
     r: Robot,
-    j: usize,
+    j: Place,
     out: &mut [u8],
 ) -> usize
-    requires { (length zone.now ≤ 128) × (j < 128) }
-    ensures { world state.new result out.new ≡ made_all (world state.old count out.old) (across zone.now (hall_leave (arrangement_of state.old zone.now) r.0 j)) }
+    ensures { world state.new result out.new ≡ made_all (world state.old count out.old) (across zone.entry.vertices.now (hall_leave (arrangement_of state.old zone.entry.vertices.now) r.0 j.index)) }
 {
     make_way(state, count, zone, |line| index_of(line, r.0), 1, j, out)
 }
@@ -71,13 +68,12 @@ pub fn leave(
 pub fn enter(
     state: &mut State,
     count: usize,
-    zone: &[u8],
-    j: usize,
+    zone: ZoneVertices,
+    j: Place,
     behind: u8,
     out: &mut [u8],
 ) -> usize
-    requires { (length zone.now ≤ 128) × (j < 128) }
-    ensures { world state.new result out.new ≡ made_all (world state.old count out.old) (across zone.now (hall_enter (arrangement_of state.old zone.now) j behind)) }
+    ensures { world state.new result out.new ≡ made_all (world state.old count out.old) (across zone.entry.vertices.now (hall_enter (arrangement_of state.old zone.entry.vertices.now) j.index behind)) }
 {
     make_way(
         state,
@@ -92,9 +88,14 @@ pub fn enter(
 
 // The robots go to their goals' places.
 #[tactic(auto, using(motion::specs::Across::arrangement_length, crate::specs::Ends::length_first))]
-pub fn end(state: &mut State, count: usize, zone: &[u8], goals: &State, out: &mut [u8]) -> usize
-    requires { length zone.now ≤ 128 }
-    ensures { world state.new result out.new ≡ made_all (world state.old count out.old) (across zone.now (hall_end (arrangement_of state.old zone.now) (arrangement_of goals.now zone.now))) }
+pub fn end(
+    state: &mut State,
+    count: usize,
+    zone: ZoneVertices,
+    goals: &State,
+    out: &mut [u8],
+) -> usize
+    ensures { world state.new result out.new ≡ made_all (world state.old count out.old) (across zone.entry.vertices.now (hall_end (arrangement_of state.old zone.entry.vertices.now) (arrangement_of goals.now zone.entry.vertices.now))) }
 {
     let mut line = [0u8; 128];
     let mut places = [0u8; 128];
@@ -106,7 +107,7 @@ pub fn end(state: &mut State, count: usize, zone: &[u8], goals: &State, out: &mu
     settle(
         state,
         count,
-        zone,
+        zone.vertices,
         &line[..k],
         &places[..k],
         &targets[..k],

@@ -1,7 +1,7 @@
 // The state, one move, and the counted and written move.
 #![tactic(auto)]
 
-ghost use Rattle.std.specs.Prelude.{◌≡◌, set, get_or, take};
+ghost use Rattle.std.specs.Prelude.{◌≡◌, length, set, get_or, take};
 ghost use Rattle.spec.specs.Arrangement.{mv};
 ghost use Rattle.spec.specs.State.{robot_on};
 ghost use Rattle.motion.specs.States.{stood, moved_by};
@@ -41,6 +41,14 @@ impl State {
             put_cell(&mut robots, v.0 as usize, Robot(i as u8));
         }
         State { robots, vertices }
+    }
+
+    // How many vertices a state has a place for.
+    pub fn room(&self) -> usize
+        ensures { (result ≡ 128) × (length self.now.robots ≡ 128) }
+    {
+        let robots: &[Robot] = &self.robots;
+        robots.len()
     }
 
     // The robot on a vertex.

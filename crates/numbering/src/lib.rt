@@ -1,7 +1,7 @@
 // Points, zones and carts are three separate numberings (document 01): a robot's number can't index a table of vertices.
 #![tactic(auto)]
 
-ghost use Rattle.std.specs.Prelude.{◌≡◌, ◌≤◌, length};
+ghost use Rattle.std.specs.Prelude.{◌≡◌, ◌<◌, ◌≤◌, length};
 ghost use Rattle.numbering.specs.Kind.{number_of, least_of, Decodes};
 
 // A point.
@@ -21,6 +21,13 @@ pub struct Robot(pub u8);
 pub struct ZoneVertices<'a> {
     pub vertices: &'a [u8],
     pub ghost short: { length vertices.now ≤ 128 },
+}
+
+// A place of a zone, from 0 on: one of 128.
+#[derive(Clone, Copy)]
+pub struct Place {
+    pub index: usize,
+    pub ghost within: { index < 128 },
 }
 
 // A zone's kind.

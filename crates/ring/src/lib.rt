@@ -16,7 +16,7 @@ use circle::places::next;
 use circle::pushing::{push, push_to};
 use ending::{lowest, open_at};
 use motion::State;
-use numbering::Robot;
+use numbering::{Robot, ZoneVertices};
 use turns::turning::{goes_on, step, turn_place};
 
 // "Leaving: push until at from": robot r, which can leave there, is pushed to place j.
@@ -41,28 +41,29 @@ pub fn leave(
 pub fn enter(
     state: &mut State,
     count: usize,
-    zone: &[u8],
+    zone: ZoneVertices,
     j: usize,
     behind: u8,
     out: &mut [u8],
 ) -> usize
-    requires j_in_bounds { (j < length zone.now) × (length zone.now ≤ 128) }
-    requires listed { Listed (length state.old.robots) zone.now }
-    ensures { world state.new result out.new ≡ made_all (world state.old count out.old) (across zone.now (ring_enter (arrangement_of state.old zone.now) j behind)) }
+    requires j_in_bounds { j < length zone.vertices.now }
+    requires listed { Listed (length state.old.robots) zone.vertices.now }
+    ensures { world state.new result out.new ≡ made_all (world state.old count out.old) (across zone.entry.vertices.now (ring_enter (arrangement_of state.old zone.entry.vertices.now) j behind)) }
 {
-    let m = zone.len();
+    let ring = zone.vertices;
+    let m = ring.len();
     let mut count = count;
-    let mut turn = turn_place(state, zone, j, Robot(behind));
+    let mut turn = turn_place(state, ring, j, Robot(behind));
     for _ in 0..m * m {
         let Some(p) = turn else {
             return count;
         };
-        if goes_on(state, zone, j, p) {
-            count = step(state, count, zone, p, out);
+        if goes_on(state, ring, j, p) {
+            count = step(state, count, ring, p, out);
             turn = Some(next(m, p));
         } else {
-            count = push(state, count, zone, p, out);
-            turn = turn_place(state, zone, j, Robot(behind));
+            count = push(state, count, ring, p, out);
+            turn = turn_place(state, ring, j, Robot(behind));
         }
     }
     count
@@ -70,19 +71,26 @@ pub fn enter(
 
 // "Ending: push the ring's lowest-numbered cart to its goal, then treat the other places .. as a hall": the robots go to
 // their goals, which can be reached.
-pub fn end(state: &mut State, count: usize, zone: &[u8], goals: &State, out: &mut [u8]) -> usize
-    requires zone_len_bound { length zone.now ≤ 128 }
-    requires listed { Listed (length state.old.robots) zone.now }
-    requires zone_value { ring_can_end (arrangement_of state.old zone.now) (arrangement_of goals.now zone.now) ≡ true }
-    ensures { world state.new result out.new ≡ made_all (world state.old count out.old) (across zone.now (ring_end (arrangement_of state.old zone.now) (arrangement_of goals.now zone.now))) }
+pub fn end(
+    state: &mut State,
+    count: usize,
+    zone: ZoneVertices,
+    goals: &State,
+    out: &mut [u8],
+) -> usize
+    requires listed { Listed (length state.old.robots) zone.vertices.now }
+    requires zone_value { ring_can_end (arrangement_of state.old zone.vertices.now) (arrangement_of goals.now zone.vertices.now) ≡ true }
+    ensures { world state.new result out.new ≡ made_all (world state.old count out.old) (across zone.entry.vertices.now (ring_end (arrangement_of state.old zone.entry.vertices.now) (arrangement_of goals.now zone.entry.vertices.now))) }
 {
-    let Some(r) = lowest(state, zone) else {
+    let ring = zone.vertices;
+    let Some(r) = lowest(state, ring) else {
         return count;
     };
-    let j = place_of(goals, zone, r);
-    let pushed = push_to(state, count, zone, r, j, out);
+    let j = place_of(goals, ring, r);
+    let pushed = push_to(state, count, ring, r, j, out);
     let mut buffer = [0u8; 128];
-    let others = &mut buffer[..zone.len() - 1];
-    open_at(zone, j, others);
+    let others = &mut buffer[..ring.len() - 1];
+    open_at(ring, j, others);
+    let others = ZoneVertices { vertices: others };
     hall::end(state, pushed, others, goals, out)
 }

@@ -10,7 +10,7 @@ ghost use Rattle.clique.specs.Entering.{Numbered};
 ghost use Rattle.walking.specs.Kinds.{leave_moves, enter_moves, end_moves};
 
 use motion::State;
-use numbering::{Robot, ZoneKind};
+use numbering::{Place, Robot, ZoneKind, ZoneVertices};
 
 // The moves that bring robot r, which can leave there, to place j.
 pub fn leave(
@@ -30,7 +30,14 @@ pub fn leave(
     match kind {
         ZoneKind::Clique => vacating::leave(state, count, zone, r, j, out),
         ZoneKind::Ring => ring::leave(state, count, zone, r, j, out),
-        _ => hall::leave(state, count, zone, r, j, out),
+        _ => hall::leave(
+            state,
+            count,
+            ZoneVertices { vertices: zone },
+            r,
+            Place { index: j },
+            out,
+        ),
     }
 }
 
@@ -54,8 +61,22 @@ pub fn enter(
 {
     match kind {
         ZoneKind::Clique => clique::enter(state, count, zone, j, list, out),
-        ZoneKind::Ring => ring::enter(state, count, zone, j, behind, out),
-        _ => hall::enter(state, count, zone, j, behind, out),
+        ZoneKind::Ring => ring::enter(
+            state,
+            count,
+            ZoneVertices { vertices: zone },
+            j,
+            behind,
+            out,
+        ),
+        _ => hall::enter(
+            state,
+            count,
+            ZoneVertices { vertices: zone },
+            Place { index: j },
+            behind,
+            out,
+        ),
     }
 }
 
@@ -76,7 +97,7 @@ pub fn bring_to_goals(
 {
     match kind {
         ZoneKind::Clique => clique::bring_to_goals(state, count, zone, goals, out),
-        ZoneKind::Ring => ring::end(state, count, zone, goals, out),
-        _ => hall::end(state, count, zone, goals, out),
+        ZoneKind::Ring => ring::end(state, count, ZoneVertices { vertices: zone }, goals, out),
+        _ => hall::end(state, count, ZoneVertices { vertices: zone }, goals, out),
     }
 }

@@ -9,10 +9,10 @@ use Rattle.hall.proofs.enter.Goals as goal
 pub returns : goal.returns
 returns c =
     let a = c.args in
-    let z = a.zone.now in
+    let z = a.zone.vertices.now in
     let m = c.make_way.ensures in
     let shows = m.1.shows in
     let says = m.1.says in
     let e : m.0 ≡ min (lower_of a.behind (order (arrangement_of a.state.now z))) (length (order (arrangement_of a.state.now z))) = search rules in
     m.2 ∙ ap (λ (ms : List Move). made_all (world a.state.now a.count a.out.now) (across z ms))
-    (enter_is (arrangement_of a.state.now z) a.behind m.0 a.j e)
+    (enter_is (arrangement_of a.state.now z) a.behind m.0 a.j.index e)

@@ -10,13 +10,13 @@ use Rattle.hall.proofs.make_way.Goals as goal
 pub returns : goal.returns
 returns g c =
     let a = c.args in
-    let z = a.zone.now in
+    let z = a.zone.vertices.now in
     let l = c.line_up-n in
     let s = says_at g.F.Fn c.below-t.ensures refl in (
       c.below-t.result,
       record { shown = s.shown; shows = s.shows ∙ l.ensures.robots; says = s.says },
       c.settle.ensures
           ∙ ap (λ (ms : List Move). made_all (world a.state.now a.count a.out.now) (across z ms))
-          (way_is (arrangement_of a.state.now z) l.result c.below-t.result a.m a.j _ _ _
-          (omega (arith, l.ensures.short, arrangement_length a.state.now z, c.requires.long)) l.ensures c.spread.ensures),
+          (way_is (arrangement_of a.state.now z) l.result c.below-t.result a.m a.j.index _ _ _
+          (omega (arith, l.ensures.short, arrangement_length a.state.now z, a.zone.short)) l.ensures c.spread.ensures),
     )

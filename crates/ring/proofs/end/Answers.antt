@@ -14,31 +14,31 @@ buffer_cut n h l = let k : n - 1 ≤ 128 = omega arith in omega (arith, length-t
 pub returns-in_default : goal.returns-in_default
 returns-in_default c =
     let a = c.args in
-    ends_nobody a.state.now a.goals.now a.zone.now c.in_default.ensures (world a.state.now a.count a.out.now)
+    ends_nobody a.state.now a.goals.now a.zone.vertices.now c.in_default.ensures (world a.state.now a.count a.out.now)
 
 pub push_to-pushed-requires-clause-j_in_bounds : goal.push_to-pushed-requires-clause-j_in_bounds
 push_to-pushed-requires-clause-j_in_bounds c =
     let a = c.args in
-    omega (arith, c.place_of-j.ensures, ends_goal a.state.now a.goals.now a.zone.now c.in-Some.r.0 c.in-Some.ensures c.requires.zone_value)
+    omega (arith, c.place_of-j.ensures, ends_goal a.state.now a.goals.now a.zone.vertices.now c.in-Some.r.0 c.in-Some.ensures c.requires.zone_value)
 
 pub push_to-pushed-requires-clause-zone_in_bounds : goal.push_to-pushed-requires-clause-zone_in_bounds
-push_to-pushed-requires-clause-zone_in_bounds c = let a = c.args in ends_stands a.state.now a.goals.now a.zone.now c.in-Some.r.0 c.in-Some.ensures
+push_to-pushed-requires-clause-zone_in_bounds c = let a = c.args in ends_stands a.state.now a.goals.now a.zone.vertices.now c.in-Some.r.0 c.in-Some.ensures
 
 pub slice_bounds-buffer-count : goal.slice_bounds-buffer-count
-slice_bounds-buffer-count c = let a = c.args in omega (arith, ends_stands a.state.now a.goals.now a.zone.now c.in-Some.r.0 c.in-Some.ensures)
+slice_bounds-buffer-count c = let a = c.args in omega (arith, ends_stands a.state.now a.goals.now a.zone.vertices.now c.in-Some.r.0 c.in-Some.ensures)
 
 pub open_at-requires : goal.open_at-requires
 open_at-requires c =
     let a = c.args in
-    let z = a.zone.now in
+    let z = a.zone.vertices.now in
     let h : c.place_of-j.result < length z = omega (arith, c.place_of-j.ensures, ends_goal a.state.now a.goals.now z c.in-Some.r.0 c.in-Some.ensures c.requires.zone_value) in
-    (h, buffer_cut (length z) (omega arith) c.requires.zone_len_bound)
+    (h, buffer_cut (length z) (omega arith) a.zone.short)
 
 pub returns : goal.returns
 returns c =
     let a = c.args in
     let s = a.state.now in
-    let z = a.zone.now in
+    let z = a.zone.vertices.now in
     let r = c.in-Some.r.0 in
     let h : c.place_of-j.result < length z = omega (arith, c.place_of-j.ensures, ends_goal s a.goals.now z r c.in-Some.ensures c.requires.zone_value) in
     c.end.ensures

@@ -18,7 +18,7 @@ pub loop-init : goal.loop-init
 loop-init c =
     let a = c.args in
     let s = a.state.now in
-    let z = a.zone.now in
+    let z = a.zone.vertices.now in
     record {
       size = refl;
       left =
@@ -31,13 +31,13 @@ pub returns-in_default : goal.returns-in_default
 returns-in_default c =
     let a = c.args in
     let o = c.loop in
-    turn_rest (world o.state o.count o.out) o.state a.zone.now a.j a.behind _ c.requires.j_in_bounds.0 (sym (rw c.in_default.is at o.invariant.next)) ∙ o.invariant.left
+    turn_rest (world o.state o.count o.out) o.state a.zone.vertices.now a.j a.behind _ c.requires.j_in_bounds (sym (rw c.in_default.is at o.invariant.next)) ∙ o.invariant.left
 
 pub step-count-requires-clause-alone : goal.step-count-requires-clause-alone
 step-count-requires-clause-alone c =
     let a = c.args in
     let s = c.loop.state in
-    let z = a.zone.now in
+    let z = a.zone.vertices.now in
     let f = rw c.in-Some.is at c.loop.invariant.next in
     goes_alone (arrangement_of s z) a.j a.behind c.in-Some.p (omega (arith, f.0, arrangement_length s z)) f.1 (sym c.goes_on.ensures ∙ c.if-goes_on.true)
 
@@ -47,7 +47,7 @@ loop-preserved c =
     let o = c.loop in
     let i = c.if-goes_on in
     let s = o.state in
-    let z = a.zone.now in
+    let z = a.zone.vertices.now in
     let p = c.in-Some.p in
     let w = world s o.count o.out in
     let M : Listed (length s.robots) z = rw o.invariant.size c.requires.listed in
@@ -60,7 +60,7 @@ loop-preserved c =
             b.step-count.ensures,
             (
               omega (arith, next_under (length z) p f.0, b.next.ensures),
-              turn_next w _ z a.j a.behind p b.next.result M c.requires.j_in_bounds.0 f.0 f.1 (sym c.goes_on.ensures ∙ b.if-goes_on.true) b.next.ensures b.step-count.ensures,
+              turn_next w _ z a.j a.behind p b.next.result M c.requires.j_in_bounds f.0 f.1 (sym c.goes_on.ensures ∙ b.if-goes_on.true) b.next.ensures b.step-count.ensures,
             ),
           )
       | else-goes_on b ↦ rw (b.state-is, b.count-is, b.out-is, b.turn-is) (b.push-count.ensures, b.turn_place-turn-else-goes_on.ensures)
@@ -75,4 +75,4 @@ pub returns : goal.returns
 returns c =
     let a = c.args in
     let o = c.loop in
-    turn_over (world o.state o.count o.out) a.zone.now _ a.j a.behind _ (omega arith) ∙ o.invariant.left
+    turn_over (world o.state o.count o.out) a.zone.vertices.now _ a.j a.behind _ (omega arith) ∙ o.invariant.left

@@ -12,6 +12,6 @@ abbrev pub invariant-loop : goal.invariant-loop
 invariant-loop l =
     record {
       size : length l.state.robots ≡ length l.initial.state.robots;
-      left : made_all (world l.state l.count l.out) (across l.zone (turn_for (length l.zone * length l.zone - l.counter) (arrangement_of l.state l.zone) l.j l.behind)) ≡ made_all (world l.initial.state l.count-2 l.initial.out) (across l.zone (ring_enter (arrangement_of l.initial.state l.zone) l.j l.behind));
-      next : MatchOption l.turn (turn_at (arrangement_of l.state l.zone) l.j l.behind ≡ length l.zone) (λ p. (p < length l.zone) × (p ≡ turn_at (arrangement_of l.state l.zone) l.j l.behind));
+      left : made_all (world l.state l.count l.out) (across l.zone.vertices.now (turn_for (length l.zone.vertices.now * length l.zone.vertices.now - l.counter) (arrangement_of l.state l.zone.vertices.now) l.j l.behind)) ≡ made_all (world l.initial.state l.count-2 l.initial.out) (across l.zone.vertices.now (ring_enter (arrangement_of l.initial.state l.zone.vertices.now) l.j l.behind));
+      next : MatchOption l.turn (turn_at (arrangement_of l.state l.zone.vertices.now) l.j l.behind ≡ length l.zone.vertices.now) (λ p. (p < length l.zone.vertices.now) × (p ≡ turn_at (arrangement_of l.state l.zone.vertices.now) l.j l.behind));
     }
