@@ -4,16 +4,16 @@ ghost use Rattle.spec.specs.Arrangement.{seek};
 ghost use Rattle.spec.specs.Ring.{pushes, push_to};
 ghost use Rattle.spec.specs.State.{across, arrangement_of};
 ghost use Rattle.motion.specs.World.{world, made_all};
-ghost use Rattle.motion.specs.Coupling.{Listed};
 ghost use Rattle.circle.specs.Runs.{run_at};
 ghost use Rattle.circle.specs.Pushes.{pushed};
 
 use crate::places::{around, distance, next};
 use cells::{place_of, robot_at, vertex_at};
-use motion::State;
+use motion::{ListedVertices, State};
 use numbering::{Robot, Vertex};
 
 // How many robots stand in the run of taken places forward from place p, with the one on p.
+// A place and its ring stay two values: the place moves round at each push, and a pair would be made anew for each.
 fn run_length(state: &State, zone: &[u8], p: usize) -> usize
     requires { p < length zone.now }
     ensures { result ≡ length (run_at state.now zone.now p) }
@@ -27,17 +27,24 @@ fn run_length(state: &State, zone: &[u8], p: usize) -> usize
 
 // "in the run of taken points forward from it, the foremost cart of the run moves first, each one place, the pushed cart
 // last": the robot on place p is pushed. It is read before the run moves: in a full ring the foremost one takes its place.
-pub fn push(state: &mut State, count: usize, zone: &[u8], p: usize, out: &mut [u8]) -> usize
-    requires p_in_bounds { p < length zone.now }
-    requires listed { Listed (length state.old.robots) zone.now }
-    ensures { world state.new result out.new ≡ made_all (world state.old count out.old) (across zone.now (pushed (arrangement_of state.old zone.now) p)) }
+pub fn push(
+    state: &mut State,
+    count: usize,
+    zone: ListedVertices,
+    p: usize,
+    out: &mut [u8],
+) -> usize
+    requires p_in_bounds { p < length zone.vertices.now }
+    ensures { world state.new result out.new ≡ made_all (world state.old count out.old) (across zone.entry.vertices.now (pushed (arrangement_of state.old zone.entry.vertices.now) p)) }
 {
-    let m = zone.len();
-    let first = robot_at(state, zone, p);
+    prove!(state.room() == 128);
+    let ring = zone.vertices;
+    let m = ring.len();
+    let first = robot_at(state, ring, p);
     let mut count = count;
-    for k in (0..run_length(state, zone, p)).rev() {
-        let v = vertex_at(zone, around(m, p, k));
-        let w = vertex_at(zone, around(m, p, k + 1));
+    for k in (0..run_length(state, ring, p)).rev() {
+        let v = vertex_at(ring, around(m, p, k));
+        let w = vertex_at(ring, around(m, p, k + 1));
         let last = k == 0;
         let r = if last { first } else { state.robot_on(v) };
         count = state.make(count, r, v, w, out);
@@ -49,20 +56,20 @@ pub fn push(state: &mut State, count: usize, zone: &[u8], p: usize, out: &mut [u
 pub fn push_times(
     state: &mut State,
     count: usize,
-    zone: &[u8],
+    zone: ListedVertices,
     p: usize,
     n: usize,
     out: &mut [u8],
 ) -> usize
-    requires p_in_bounds { p < length zone.now }
-    requires listed { Listed (length state.old.robots) zone.now }
-    ensures { world state.new result out.new ≡ made_all (world state.old count out.old) (across zone.now (pushes n (arrangement_of state.old zone.now) p)) }
+    requires p_in_bounds { p < length zone.vertices.now }
+    ensures { world state.new result out.new ≡ made_all (world state.old count out.old) (across zone.entry.vertices.now (pushes n (arrangement_of state.old zone.entry.vertices.now) p)) }
 {
+    prove!(state.room() == 128);
     let mut count = count;
     let mut at = p;
     for _ in 0..n {
         count = push(state, count, zone, at, out);
-        at = next(zone.len(), at);
+        at = next(zone.vertices.len(), at);
     }
     count
 }
@@ -71,17 +78,17 @@ pub fn push_times(
 pub fn push_to(
     state: &mut State,
     count: usize,
-    zone: &[u8],
+    zone: ListedVertices,
     r: Robot,
     j: usize,
     out: &mut [u8],
 ) -> usize
-    requires j_in_bounds { j < length zone.now }
-    requires listed { Listed (length state.old.robots) zone.now }
-    requires zone_in_bounds { seek (suc r.0) (arrangement_of state.old zone.now) < length zone.now }
-    ensures { world state.new result out.new ≡ made_all (world state.old count out.old) (across zone.now (push_to (arrangement_of state.old zone.now) r.0 j)) }
+    requires j_in_bounds { j < length zone.vertices.now }
+    requires zone_in_bounds { seek (suc r.0) (arrangement_of state.old zone.vertices.now) < length zone.vertices.now }
+    ensures { world state.new result out.new ≡ made_all (world state.old count out.old) (across zone.entry.vertices.now (push_to (arrangement_of state.old zone.entry.vertices.now) r.0 j)) }
 {
-    let p = place_of(state, zone, r);
-    let n = distance(zone.len(), p, j);
+    let ring = zone.vertices;
+    let p = place_of(state, ring, r);
+    let n = distance(ring.len(), p, j);
     push_times(state, count, zone, p, n, out)
 }

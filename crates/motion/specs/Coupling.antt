@@ -1,5 +1,5 @@
 -- What moves inside a zone do to the state, they do to the zone's arrangement.
-use Rattle.std.specs.Prelude.{◌≡◌, ◌≢◌, ℕ, ◌<◌, get_or}
+use Rattle.std.specs.Prelude.{◌≡◌, ◌≢◌, ℕ, ◌<◌, ◌≤◌, get_or}
 use Rattle.std.proofs.Math.Path.{refl, ap, ap₂}
 use Rattle.std.proofs.Common.{sym, ◌∙◌, arith, ext_get_or, get_or-set_same, get_or-set_other}
 use mathlib.Core.List.{List, [], ◌∷◌, ◌++◌, map}
@@ -9,12 +9,17 @@ use Rattle.spec.specs.Arrangement.{Arrangement, Move, apply, apply_all}
 use Rattle.spec.specs.State.{State, cell_of, moved, moved_all, arrangement_of, across_move, across}
 use Rattle.theory.specs.Basics.Lists.{get_d_map}
 use Rattle.theory.specs.Maps.Cells.{cell_of_lem, cell_none}
+use Rattle.theory.specs.Maps.ZoneSize.{different_few}
 use Rattle.motion.specs.World.{World, made_all, state_is, robots_length}
 
 -- the vertices of a zone: each one of n, none twice
 pub record Listed (n : ℕ) (vs : List ℕ) : Type 0 where
   pub under : (i : ℕ) → i < length vs → get_or vs i 0 < n
   pub once : (i k : ℕ) → i < length vs → k < length vs → get_or vs i 0 ≡ get_or vs k 0 → i ≡ k
+
+-- they are at most n
+pub listed_short : (n : ℕ) (vs : List ℕ) → Listed n vs → length vs ≤ n
+listed_short n vs L = different_few vs n L.once L.under
 
 -- moves of robots between the first n places
 pub data Inside (n : ℕ) : List Move → Type 0 where

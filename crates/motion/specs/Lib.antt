@@ -3,3 +3,4 @@ pub mod States
 pub mod World
 pub mod Across
 pub mod Coupling
+pub mod Compared

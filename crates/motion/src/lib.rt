@@ -1,4 +1,6 @@
 // The state, one move, and the counted and written move.
+//
+//     zone    a zone's vertices, none of them twice
 #![tactic(auto)]
 
 ghost use Rattle.std.specs.Prelude.{◌≡◌, length, set, get_or, take};
@@ -7,9 +9,12 @@ ghost use Rattle.spec.specs.State.{robot_on};
 ghost use Rattle.motion.specs.States.{stood, moved_by};
 ghost use Rattle.motion.specs.World.{world, made, laid_move, one_more};
 
+pub mod zone;
+
 use numbering::{Robot, Vertex};
 use std::marker::Model;
 use writer::put_three;
+pub use zone::ListedVertices;
 
 // "A state holds the cart on each point and the point of each cart": 255 is no robot, and no vertex.
 #[derive(Drop)]

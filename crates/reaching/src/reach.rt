@@ -1,5 +1,5 @@
 // What a hall can reach: its robots keep their order, so that what counts is who stands below and above.
-ghost use Rattle.std.specs.Prelude.{◌≡◌, take, drop};
+ghost use Rattle.std.specs.Prelude.{◌≡◌, ◌≢◌, take, drop, MatchOption};
 ghost use Rattle.spec.specs.Arrangement.{last_named};
 ghost use Rattle.spec.specs.State.{arrangement_of};
 ghost use Rattle.spec.specs.Hall.{room, hall_can_leave, hall_can_enter, hall_can_end};
@@ -16,13 +16,13 @@ struct Count {
     all: usize,
 }
 
-fn count_robots(state: &State, zone: &[u8], named: u8) -> Count
-    ensures { Counted (row_of state.now zone.now) named result.lower result.all }
+fn count_robots(state: &State, zone: &[u8], named: Robot) -> Count
+    ensures { Counted (row_of state.now zone.now) named.0 result.lower result.all }
 {
     let mut lower: usize = 0;
     let mut all: usize = 0;
     for r in (Row { state, zone }) {
-        if lower == all && r.0 != named {
+        if lower == all && r != named {
             lower += 1;
         }
         all += 1;
@@ -41,7 +41,7 @@ pub fn has_room(size: usize, j: usize, t: usize, u: usize) -> bool
 pub fn can_leave(state: &State, zone: &[u8], r: Robot, j: usize) -> bool
     ensures { result ≡ hall_can_leave (arrangement_of state.now zone.now) r.0 j }
 {
-    let Count { lower, all } = count_robots(state, zone, r.0);
+    let Count { lower, all } = count_robots(state, zone, r);
     lower < all && has_room(zone.len(), j, lower, all - lower - 1)
 }
 
@@ -49,7 +49,7 @@ pub fn can_leave(state: &State, zone: &[u8], r: Robot, j: usize) -> bool
 pub fn can_enter(state: &State, zone: &[u8], j: usize, behind: u8) -> bool
     ensures { result ≡ hall_can_enter (arrangement_of state.now zone.now) j behind }
 {
-    let Count { lower, all } = count_robots(state, zone, behind);
+    let Count { lower, all } = count_robots(state, zone, Robot(behind));
     if behind == 255 {
         return has_room(zone.len(), j, 0, all);
     }
@@ -63,15 +63,16 @@ pub fn can_end(state: &State, zone: &[u8], goals: &State) -> bool
     Row { state, zone }.eq(Row { state: goals, zone })
 }
 
-// The nearest robot at a place lower than j and not lower than `from`, as a step names it: 255 if none.
-pub fn behind(state: &State, zone: &[u8], from: usize, j: usize) -> u8
-    ensures { result ≡ last_named (drop from (take j (arrangement_of state.now zone.now))) }
+// The nearest robot at a place lower than j and not lower than `from`.
+pub fn behind(state: &State, zone: &[u8], from: usize, j: usize) -> Option<Robot>
+    ensures { MatchOption result (last_named (drop from (take j (arrangement_of state.now zone.now))) ≡ 255)
+        (λ r. (last_named (drop from (take j (arrangement_of state.now zone.now))) ≡ r.0) × (r.0 ≢ 255)) }
 {
     for k in (from..j.min(zone.len())).rev() {
         let r = state.robot_on(Vertex(zone[k]));
         if r != Robot(255) {
-            return r.0;
+            return Some(r);
         }
     }
-    255
+    None
 }

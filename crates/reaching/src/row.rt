@@ -21,6 +21,7 @@ impl<'a> Iterator for Row<'a> {
     ghost remaining = { item_count robots_left };
 
     fn next(&mut self) -> Option<Robot> {
+        // It goes down the slice: a `find` would answer the robot and not what is left.
         while let Some((v, rest)) = self.zone.split_first() {
             self.zone = rest;
             let r = self.state.robot_on(Vertex(*v));

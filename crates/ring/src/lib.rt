@@ -7,7 +7,6 @@ ghost use Rattle.std.specs.Prelude.{◌≡◌, true, ◌≤◌, ◌<◌, length}
 ghost use Rattle.spec.specs.Ring.{ring_can_leave, ring_leave, ring_enter, ring_can_end, ring_end};
 ghost use Rattle.spec.specs.State.{across, arrangement_of};
 ghost use Rattle.motion.specs.World.{world, made_all};
-ghost use Rattle.motion.specs.Coupling.{Listed};
 
 mod ending;
 
@@ -15,23 +14,23 @@ use cells::place_of;
 use circle::places::next;
 use circle::pushing::{push, push_to};
 use ending::{lowest, open_at};
-use motion::State;
+use motion::{ListedVertices, State};
 use numbering::{Robot, ZoneVertices};
 use turns::turning::{goes_on, step, turn_place};
 
 // "Leaving: push until at from": robot r, which can leave there, is pushed to place j.
+// A place and its ring stay two values: each body needs the ring apart, and pushes begin at other places of it.
 pub fn leave(
     state: &mut State,
     count: usize,
-    zone: &[u8],
+    zone: ListedVertices,
     r: Robot,
     j: usize,
     out: &mut [u8],
 ) -> usize
-    requires j_in_bounds { j < length zone.now }
-    requires listed { Listed (length state.old.robots) zone.now }
-    requires j_value { ring_can_leave (arrangement_of state.old zone.now) r.0 j ≡ true }
-    ensures { world state.new result out.new ≡ made_all (world state.old count out.old) (across zone.now (ring_leave (arrangement_of state.old zone.now) r.0 j)) }
+    requires j_in_bounds { j < length zone.vertices.now }
+    requires j_value { ring_can_leave (arrangement_of state.old zone.vertices.now) r.0 j ≡ true }
+    ensures { world state.new result out.new ≡ made_all (world state.old count out.old) (across zone.entry.vertices.now (ring_leave (arrangement_of state.old zone.entry.vertices.now) r.0 j)) }
 {
     push_to(state, count, zone, r, j, out)
 }
@@ -41,15 +40,15 @@ pub fn leave(
 pub fn enter(
     state: &mut State,
     count: usize,
-    zone: ZoneVertices,
+    zone: ListedVertices,
     j: usize,
     behind: u8,
     out: &mut [u8],
 ) -> usize
     requires j_in_bounds { j < length zone.vertices.now }
-    requires listed { Listed (length state.old.robots) zone.vertices.now }
     ensures { world state.new result out.new ≡ made_all (world state.old count out.old) (across zone.entry.vertices.now (ring_enter (arrangement_of state.old zone.entry.vertices.now) j behind)) }
 {
+    prove!(state.room() == 128);
     let ring = zone.vertices;
     let m = ring.len();
     let mut count = count;
@@ -62,7 +61,7 @@ pub fn enter(
             count = step(state, count, ring, p, out);
             turn = Some(next(m, p));
         } else {
-            count = push(state, count, ring, p, out);
+            count = push(state, count, zone, p, out);
             turn = turn_place(state, ring, j, Robot(behind));
         }
     }
@@ -74,20 +73,20 @@ pub fn enter(
 pub fn end(
     state: &mut State,
     count: usize,
-    zone: ZoneVertices,
+    zone: ListedVertices,
     goals: &State,
     out: &mut [u8],
 ) -> usize
-    requires listed { Listed (length state.old.robots) zone.vertices.now }
     requires zone_value { ring_can_end (arrangement_of state.old zone.vertices.now) (arrangement_of goals.now zone.vertices.now) ≡ true }
     ensures { world state.new result out.new ≡ made_all (world state.old count out.old) (across zone.entry.vertices.now (ring_end (arrangement_of state.old zone.entry.vertices.now) (arrangement_of goals.now zone.entry.vertices.now))) }
 {
+    prove!(state.room() == 128);
     let ring = zone.vertices;
     let Some(r) = lowest(state, ring) else {
         return count;
     };
     let j = place_of(goals, ring, r);
-    let pushed = push_to(state, count, ring, r, j, out);
+    let pushed = push_to(state, count, zone, r, j, out);
     let mut buffer = [0u8; 128];
     let others = &mut buffer[..ring.len() - 1];
     open_at(ring, j, others);

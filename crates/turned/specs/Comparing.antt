@@ -1,15 +1,13 @@
 -- Whether a goal arrangement is in a ring's configuration: the same order up to turning, or if full the same arrangement.
-use Rattle.std.specs.Prelude.{◌≡◌, refl, ◌≢◌, Bool, true, false, not, List, [], ◌∷◌, ◌++◌, map, take, MatchOption, Option, Some, None, IfSome}
-use Rattle.std.specs.List.{list_all, filter, find, AllZip}
-use Rattle.std.specs.Iterator.{AlwaysYields, YieldsThen, ComparesItemsByEq}
-use Rattle.std.proofs.lemmas.Iterator.{YieldsList}
+use Rattle.std.specs.Prelude.{◌≡◌, refl, ◌≢◌, Bool, true, false, not, List, [], ◌∷◌, ◌++◌, map, take, MatchOption, Option, Some, None}
+use Rattle.std.specs.List.{list_all, filter, find}
 use Rattle.std.proofs.Math.Path.{ap, ap₂, sym}
 use Rattle.std.proofs.Common.{◌∙◌, arith}
 use Prim.Native.Nat.{ℕ, zero, suc}
 use Rattle.std.proofs.Math.Decide.{ℕ_discrete}
 use Rattle.std.proofs.Math.ListN.{length, drop}
 use Rattle.std.proofs.Math.Dec.{eqb}
-use borrow.Author.Tests.{eq-eqb, ne_eqb, eqb-true, eqb-false}
+use borrow.Author.Tests.{eq-eqb, ne_eqb}
 use mathlib.Core.Path.{subst}
 use Rattle.std.specs.Option.{option_map}
 use Rattle.numbering.specs.declared.Robot.{Robot}
@@ -107,50 +105,6 @@ pub first_found : (s : State) (vs : List ℕ) (r : Option Robot) → option_map 
     → MatchOption r (order (arrangement_of s vs) ≡ []) (λ x. (rs : List ℕ) × (order (arrangement_of s vs) ≡ x.0 ∷ rs))
 first_found s vs None e = subst (λ o. MatchOption o (order (arrangement_of s vs) ≡ []) (λ x. (rs : List ℕ) × (order (arrangement_of s vs) ≡ x ∷ rs))) (sym e) (first_robot s vs)
 first_found s vs (Some x) e = subst (λ o. MatchOption o (order (arrangement_of s vs) ≡ []) (λ x. (rs : List ℕ) × (order (arrangement_of s vs) ≡ x ∷ rs))) (sym e) (first_robot s vs)
-
--- ---- what `eq` of two iterators answers
-
-module _ {S T A : Type 0} (steps : S → Option A → S → Type 0) (others : T → Option A → T → Type 0) (v : A → ℕ) (eq : A → A → Bool)
-    (agree : (x y : A) → eq x y ≡ eqb (v x) (v y)) (r : Bool) where
-  -- the last answers of both
-  abbrev Last : Option A → Option A → Type 0
-  Last o p = MatchOption o (MatchOption p (r ≡ true) (λ _. r ≡ false)) (λ x. (r ≡ false) × IfSome p (λ y. eq x y ≡ false))
-
-  at_last : (o p : Option A) (xs ys : List ℕ) (s u : S) (t w : T) → AlwaysYields steps v s xs → AlwaysYields others v t ys → steps s o u → others t p w → Last o p → r ≡ same_list xs ys
-  unfolding same_list
-  at_last None None (x ∷ xs) ys s u t w e f a b h = absurd (e.0 u a)
-  at_last None (Some y) (x ∷ xs) ys s u t w e f a b h = absurd (e.0 u a)
-  at_last (Some x) None [] ys s u t w e f a b h = absurd (e x u a)
-  at_last (Some x) (Some y) [] ys s u t w e f a b h = absurd (e x u a)
-  at_last None None [] (y ∷ ys) s u t w e f a b h = absurd (f.0 w b)
-  at_last None (Some y) [] [] s u t w e f a b h = absurd (f y w b)
-  at_last (Some x) None (z ∷ xs) (y ∷ ys) s u t w e f a b h = absurd (f.0 w b)
-  at_last (Some x) (Some y) (z ∷ xs) [] s u t w e f a b h = absurd (f y w b)
-  at_last None None [] [] s u t w e f a b h = h
-  at_last None (Some y) [] (z ∷ ys) s u t w e f a b h = h
-  at_last (Some x) None (z ∷ xs) [] s u t w e f a b h = h.0
-  at_last (Some x) (Some y) (x' ∷ xs) (y' ∷ ys) s u t w e f a b h =
-      h.0 ∙ other_head x' y' xs ys (eqb-false x' y' (ap₂ eqb (sym (e.1 x u a).0) (sym (f.1 y w b).0) ∙ sym (agree x y) ∙ h.1))
-
-  along : (cs bs : List A) (o p : Option A) (xs ys : List ℕ) (s u : S) (t w : T) → AlwaysYields steps v s xs → AlwaysYields others v t ys
-      → YieldsThen steps s cs o u → YieldsThen others t bs p w → AllZip (λ x y. eq x y ≡ true) cs bs → Last o p → r ≡ same_list xs ys
-  along [] [] o p xs ys s u t w e f a b z h = at_last o p xs ys s u t w e f (subst (λ j. steps j o u) (sym a.1) a.2) (subst (λ j. others j p w) (sym b.1) b.2) h
-  along [] (y ∷ bs) o p xs ys s u t w e f a b z h = absurd z
-  along (x ∷ cs) [] o p xs ys s u t w e f a b z h = absurd z
-  along (x ∷ cs) (y ∷ bs) o p [] ys s u t w e f a b z h = absurd (e x a.1.0 a.1.1)
-  along (x ∷ cs) (y ∷ bs) o p (x' ∷ xs) [] s u t w e f a b z h = absurd (f y b.1.0 b.1.1)
-  along (x ∷ cs) (y ∷ bs) o p (x' ∷ xs) (y' ∷ ys) s u t w e f a b z h =
-      let m = e.1 x a.1.0 a.1.1 in
-      let n = f.1 y b.1.0 b.1.1 in
-      along cs bs o p xs ys a.1.0 u b.1.0 w m.1 n.1 (a.0, a.1.2, a.2) (b.0, b.1.2, b.2) z.1 h
-      ∙ same_head x' y' xs ys (eqb-true x' y' (ap₂ eqb (sym m.0) (sym n.0) ∙ sym (agree x y) ∙ z.0))
-
--- it is the test of their lists
-pub same_from_eq : {S U T A : Type 0} {steps : S → Option A → S → Type 0} {others : T → Option A → T → Type 0} {v : A → ℕ} {s : S} {eq : A → A → Bool} {xs ys : List ℕ}
-    (becomes : U → T → Type 0) (other : U) (r : Bool) → ComparesItemsByEq steps becomes others s other eq r
-    → YieldsList steps v s xs → ((it : T) → becomes other it → YieldsList others v it ys) → ((x y : A) → eq x y ≡ eqb (v x) (v y)) → r ≡ same_list xs ys
-same_from_eq {steps = steps} {others = others} {v = v} {s = s} {eq = eq} {xs = xs} {ys = ys} becomes other r d e f agree =
-    along steps others v eq agree r d.1 d.2 d.3 d.4 xs ys s d.5 d.0 d.6 e.runs (f d.0 d.7).runs d.8 d.9 d.10 d.11
 
 -- ---- turned
 

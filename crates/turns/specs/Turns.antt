@@ -15,6 +15,7 @@ use Rattle.motion.specs.World.{World, made_all, made_none}
 use Rattle.motion.specs.Across.{made_both, across_nil, arrangement_length, arrangement_at}
 use Rattle.motion.specs.Coupling.{Listed, arranged}
 use Rattle.circle.specs.Pushes.{inside_push}
+use Rattle.cells.specs.Reading.{seek_nobody}
 use Rattle.circle.specs.Reading.{never_256}
 use Rattle.turns.specs.Entry.{frame_opened, opened_at, last_stands, last_none}
 
@@ -212,6 +213,15 @@ module _ (s : State) (vs : List ℕ) (j named : ℕ) where
       let t = turn_free (arrangement_of s vs) j named (sym e ∙ cell_none n) in
       ap (λ (y : ℕ). seek (suc y) (arrangement_of s vs)) d
       ∙ sym (turn_shut (arrangement_of s vs) j named (t.0 ∙ ne_eqb _ _ (λ z. q (d ∙ z))) ∙ t.1)
+
+  -- nowhere, where nobody stands
+  pub begins_never : (x : ℕ) → cell_of x ≡ cell (arrangement_of s vs) j → x ≡ 255 → ring_behind (arrangement_of s vs) j ≡ 255
+      → turn_at (arrangement_of s vs) j named ≡ length vs
+  begins_never x e n d = at (ℕ_discrete 255 named)
+    where
+      at : Dec (255 ≡ named) → turn_at (arrangement_of s vs) j named ≡ length vs
+      at (yes q) = sym (begins_nowhere x 255 e n (sym d) q)
+      at (no q) = sym (seek_nobody s vs 255 refl ∙ begins_behind x 255 e n (sym d) q)
 
 -- ---- entering
 

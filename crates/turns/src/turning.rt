@@ -1,5 +1,5 @@
 // Entering a ring: the robot behind a place, and where the next push begins.
-ghost use Rattle.std.specs.Prelude.{◌≡◌, ◌<◌, length, MatchOption};
+ghost use Rattle.std.specs.Prelude.{◌≡◌, ◌≢◌, ◌<◌, length, MatchOption};
 ghost use Rattle.spec.specs.Ring.{ring_behind};
 ghost use Rattle.spec.specs.State.{across, arrangement_of};
 ghost use Rattle.motion.specs.World.{world, made_all};
@@ -12,19 +12,21 @@ use circle::places::{around, next};
 use motion::State;
 use numbering::Robot;
 
-// "in a ring, the first cart met going backward from to, 255 if the ring is empty"
-pub fn behind(state: &State, zone: &[u8], j: usize) -> Robot
+// "in a ring, the first cart met going backward from to"; none if the ring is empty.
+// A place and its ring stay two values: the pushed place is another at each turn, and each is asked of once.
+pub fn behind(state: &State, zone: &[u8], j: usize) -> Option<Robot>
     requires { j < length zone.now }
-    ensures { result.0 ≡ ring_behind (arrangement_of state.now zone.now) j }
+    ensures { MatchOption result (ring_behind (arrangement_of state.now zone.now) j ≡ 255)
+        (λ r. (r.0 ≡ ring_behind (arrangement_of state.now zone.now) j) × (r.0 ≢ 255)) }
 {
     let m = zone.len();
     for k in (1..m).rev() {
         let r = robot_at(state, zone, around(m, j, k));
         if r != Robot(255) {
-            return r;
+            return Some(r);
         }
     }
-    Robot(255)
+    None
 }
 
 // "push the cart on to, or if to is empty the first behind it": the place where the next push begins; none where place j
@@ -37,8 +39,10 @@ pub fn turn_place(state: &State, zone: &[u8], j: usize, named: Robot) -> Option<
     if robot_at(state, zone, j) != Robot(255) {
         return Some(j);
     }
-    let b = behind(state, zone, j);
-    if b == named || b == Robot(255) {
+    let Some(b) = behind(state, zone, j) else {
+        return None;
+    };
+    if b == named {
         return None;
     }
     Some(place_of(state, zone, b))

@@ -1,9 +1,11 @@
+use borrow.Author.Rules.{rules}
 use native.Mathlib.Omega.{arith}
 use Rattle.std.proofs.Common.{ℕ, take, length-take-le, replicate}
 use mathlib.Core.Path.{◌≡◌, ◌∙◌}
 use Prim.Native.Nat.{suc, ◌-◌, ◌<◌, ◌≤◌}
 use lib.ListN.{length}
 use Rattle.motion.specs.World.{world}
+use Rattle.motion.specs.Coupling.{Listed, listed_short}
 use Rattle.ring.specs.Ending.{ends_nobody, ends_stands, ends_goal, end_both}
 use Rattle.ring.proofs.end.Goals as goal
 
@@ -24,6 +26,12 @@ push_to-pushed-requires-clause-j_in_bounds c =
 pub push_to-pushed-requires-clause-zone_in_bounds : goal.push_to-pushed-requires-clause-zone_in_bounds
 push_to-pushed-requires-clause-zone_in_bounds c = let a = c.args in ends_stands a.state.now a.goals.now a.zone.vertices.now c.in-Some.r.0 c.in-Some.ensures
 
+pub slice_bounds-buffer-end : goal.slice_bounds-buffer-end
+slice_bounds-buffer-end c = omega (arith, listed_short 128 c.args.zone.vertices.now c.args.zone.listed)
+
+pub slice_bounds-others-length : goal.slice_bounds-others-length
+slice_bounds-others-length c = let h : length c.args.zone.vertices.now ≤ 128 = listed_short 128 c.args.zone.vertices.now c.args.zone.listed in search rules
+
 pub slice_bounds-buffer-count : goal.slice_bounds-buffer-count
 slice_bounds-buffer-count c = let a = c.args in omega (arith, ends_stands a.state.now a.goals.now a.zone.vertices.now c.in-Some.r.0 c.in-Some.ensures)
 
@@ -32,15 +40,16 @@ open_at-requires c =
     let a = c.args in
     let z = a.zone.vertices.now in
     let h : c.place_of-j.result < length z = omega (arith, c.place_of-j.ensures, ends_goal a.state.now a.goals.now z c.in-Some.r.0 c.in-Some.ensures c.requires.zone_value) in
-    (h, buffer_cut (length z) (omega arith) a.zone.short)
+    (h, buffer_cut (length z) (omega arith) (listed_short 128 z a.zone.listed))
 
 pub returns : goal.returns
 returns c =
     let a = c.args in
     let s = a.state.now in
     let z = a.zone.vertices.now in
+    let L : Listed (length s.robots) z = rw c.room.ensures.1 a.zone.listed in
     let r = c.in-Some.r.0 in
     let h : c.place_of-j.result < length z = omega (arith, c.place_of-j.ensures, ends_goal s a.goals.now z r c.in-Some.ensures c.requires.zone_value) in
     c.end.ensures
-    ∙ end_both (world s a.count a.out.now) _ a.goals.now z _ r c.place_of-j.result c.requires.listed c.in-Some.ensures h c.place_of-j.ensures
+    ∙ end_both (world s a.count a.out.now) _ a.goals.now z _ r c.place_of-j.result L c.in-Some.ensures h c.place_of-j.ensures
     (ends_stands s a.goals.now z r c.in-Some.ensures) c.open_at.ensures c.push_to-pushed.ensures

@@ -1,11 +1,12 @@
+use borrow.Author.Rules.{rules}
 use native.Mathlib.Omega.{arith}
 use mathlib.Core.Path.{◌≡◌, refl, ap, sym, ◌∙◌}
-use Prim.Native.Nat.{ℕ, ◌+◌, ◌-◌, ◌*◌, ◌<◌}
+use Prim.Native.Nat.{ℕ, ◌+◌, ◌-◌, ◌*◌, ◌<◌, ◌≤◌}
 use lib.ListN.{length}
 use Rattle.std.specs.Option.{MatchOption}
 use Rattle.spec.specs.State.{arrangement_of, across}
 use Rattle.motion.specs.World.{world, made_all}
-use Rattle.motion.specs.Coupling.{Listed}
+use Rattle.motion.specs.Coupling.{Listed, listed_short}
 use Rattle.motion.specs.Across.{arrangement_length}
 use Rattle.circle.specs.Places.{next_under}
 use Rattle.circle.specs.Pushes.{pushed, push_robots}
@@ -14,13 +15,16 @@ use Rattle.turns.specs.Steps.{goes_alone, turn_next}
 use Rattle.ring.proofs.enter.Goals as goal
 use Rattle.ring.proofs.enter.Goals.{then-goes_on, else-goes_on}
 
+pub overflow_mul-end : goal.overflow_mul-end
+overflow_mul-end c = let h : length c.args.zone.vertices.now ≤ 128 = listed_short 128 c.args.zone.vertices.now c.args.zone.listed in search rules
+
 pub loop-init : goal.loop-init
 loop-init c =
     let a = c.args in
     let s = a.state.now in
     let z = a.zone.vertices.now in
     record {
-      size = refl;
+      size = c.room.ensures.1;
       left =
           ap (λ ms. made_all (world s a.count a.out.now) (across z ms))
           (turns_enter (arrangement_of s z) a.j a.behind (length z * length z - 0) (omega arith ∙ ap (λ (m : ℕ). m * m) (sym (arrangement_length s z))));
@@ -50,7 +54,7 @@ loop-preserved c =
     let z = a.zone.vertices.now in
     let p = c.in-Some.p in
     let w = world s o.count o.out in
-    let M : Listed (length s.robots) z = rw o.invariant.size c.requires.listed in
+    let M : Listed (length s.robots) z = rw o.invariant.size a.zone.listed in
     let f : (p < length z) × (p ≡ turn_at (arrangement_of s z) a.j a.behind) = rw c.in-Some.is at o.invariant.next in
     let one : (world i.state i.count i.out ≡ made_all w (across z (pushed (arrangement_of s z) p)))
     × MatchOption i.turn (turn_at (arrangement_of i.state z) a.j a.behind ≡ length z) (λ q. (q < length z) × (q ≡ turn_at (arrangement_of i.state z) a.j a.behind)) =

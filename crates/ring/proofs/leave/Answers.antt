@@ -12,10 +12,10 @@ pub push_to-requires : goal.push_to-requires
 push_to-requires c =
     let a = c.args in
     let s = a.state.now in
-    record { j_in_bounds = search rules; listed = c.requires.listed; zone_in_bounds = omega (arith, leave_inside (arrangement_of s a.zone.now) a.r.0 a.j c.requires.j_value, arrangement_length s a.zone.now) }
+    record { j_in_bounds = search rules; zone_in_bounds = omega (arith, leave_inside (arrangement_of s a.zone.vertices.now) a.r.0 a.j c.requires.j_value, arrangement_length s a.zone.vertices.now) }
 
 pub returns : goal.returns
 returns c =
     let a = c.args in
     c.push_to.ensures
-    ∙ ap (λ ms. made_all (world a.state.now a.count a.out.now) (across a.zone.now ms)) (leaves_to (arrangement_of a.state.now a.zone.now) a.r.0 a.j)
+    ∙ ap (λ ms. made_all (world a.state.now a.count a.out.now) (across a.zone.vertices.now ms)) (leaves_to (arrangement_of a.state.now a.zone.vertices.now) a.r.0 a.j)

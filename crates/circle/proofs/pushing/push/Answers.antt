@@ -5,6 +5,7 @@ use lib.ListN.{length, get_or}
 use Rattle.spec.specs.Ring.{wrap, frame}
 use Rattle.spec.specs.State.{robot_on, arrangement_of, across}
 use Rattle.motion.specs.World.{world, made, made_all, made_none}
+use Rattle.motion.specs.Coupling.{Listed}
 use Rattle.motion.specs.Across.{across_nil, across_move_lem}
 use Rattle.circle.specs.Places.{wrap_in}
 use Rattle.circle.specs.Runs.{run_at, run_robot, robot_around, run_short, frame_size}
@@ -16,7 +17,7 @@ use Rattle.circle.proofs.pushing.push.Goals.{then-last, else-last}
 pub loop-k-init : goal.loop-k-init
 loop-k-init c =
     let a = c.args in
-    let z = a.zone.now in
+    let z = a.zone.vertices.now in
     let s = a.state.now in
     let k = c.run_length-k.result in
     record {
@@ -28,11 +29,12 @@ pub loop-k-preserved : goal.loop-k-preserved
 loop-k-preserved c =
     let a = c.args in
     let o = c.loop-k in
-    let z = a.zone.now in
+    let z = a.zone.vertices.now in
     let m = length z in
     let s = a.state.now in
     let k = o.k - 1 in
     let h : a.p < m = c.requires.p_in_bounds in
+    let L : Listed (length s.robots) z = rw c.room.ensures.1 a.zone.listed in
     let j : k < length (run_at s z a.p) = omega arith in
     let l : k < m = omega (arith, run_short (frame a.p (arrangement_of s z)), frame_size s z a.p h) in
     let i : o.k ≡ k + 1 = omega arith in
@@ -49,14 +51,14 @@ loop-k-preserved c =
           (run_robot s z a.p h k c.if-last.r.0 j l e) c.around.ensures c.around-in-loop-k.ensures
           (o.invariant.after ∙ ap (λ (i : ℕ). made_all (world s a.count a.out.now) (across z (push_from s z a.p i))) i)
           (c.make-count.ensures ∙ ap (made (world o.state o.count o.out)) (across_move_lem z _ c.if-last.r.0 c.around.result c.around-in-loop-k.result _ _ refl c.vertex_at-v.ensures c.vertex_at-w.ensures));
-      before = unmoved_behind s (world o.state o.count o.out) _ z _ a.p k c.if-last.r.0 _ _ c.requires.listed h l v t c.make-count.ensures (rw (sym i) o.invariant.before);
+      before = unmoved_behind s (world o.state o.count o.out) _ z _ a.p k c.if-last.r.0 _ _ L h l v t c.make-count.ensures (rw (sym i) o.invariant.before);
     }
 
 pub returns : goal.returns
 returns c =
     let a = c.args in
     let o = c.loop-k in
-    let z = a.zone.now in
+    let z = a.zone.vertices.now in
     let e : o.k ≡ 0 = omega arith in
     o.invariant.after ∙ ap (λ (k : ℕ). made_all (world a.state.now a.count a.out.now) (across z (push_from a.state.now z a.p k))) e
     ∙ ap (λ ms. made_all (world a.state.now a.count a.out.now) (across z ms)) (push_all a.state.now z a.p)

@@ -7,20 +7,17 @@ use Rattle.circle.specs.Places.{next_under}
 use Rattle.circle.specs.Pushes.{push_robots, pushes_step, pushes_done}
 use Rattle.circle.proofs.pushing.push_times.Goals as goal
 
-pub push-count-requires-clause-listed : goal.push-count-requires-clause-listed
-push-count-requires-clause-listed c = rw c.loop.invariant.size c.requires.listed
-
 pub loop-preserved : goal.loop-preserved
 loop-preserved c =
     let a = c.args in
     let o = c.loop in
-    let z = a.zone.now in
+    let z = a.zone.vertices.now in
     let w = world o.state o.count o.out in
     record {
       size = push_robots w _ z o.at c.push-count.ensures ∙ o.invariant.size;
       inside = omega (arith, next_under (length z) o.at o.invariant.inside, c.next-at.ensures);
       left =
-          pushes_step w _ z o.at c.next-at.result (a.n - o.counter) (a.n - (o.counter + 1)) (rw o.invariant.size c.requires.listed) o.invariant.inside (omega arith) c.next-at.ensures c.push-count.ensures
+          pushes_step w _ z o.at c.next-at.result (a.n - o.counter) (a.n - (o.counter + 1)) (rw o.invariant.size a.zone.listed) o.invariant.inside (omega arith) c.next-at.ensures c.push-count.ensures
           ∙ o.invariant.left;
     }
 
@@ -28,4 +25,4 @@ pub returns : goal.returns
 returns c =
     let a = c.args in
     let o = c.loop in
-    pushes_done (world o.state o.count o.out) a.zone.now _ o.at (a.n - o.counter) (omega arith) ∙ o.invariant.left
+    pushes_done (world o.state o.count o.out) a.zone.vertices.now _ o.at (a.n - o.counter) (omega arith) ∙ o.invariant.left

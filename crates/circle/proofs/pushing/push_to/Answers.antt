@@ -9,7 +9,7 @@ use Rattle.circle.proofs.pushing.push_to.Goals as goal
 pub returns : goal.returns
 returns c =
     let a = c.args in
-    let z = a.zone.now in
+    let z = a.zone.vertices.now in
     let s = a.state.now in
     c.push_times.ensures
     ∙ ap (λ ms. made_all (world a.state.now a.count a.out.now) (across z ms))

@@ -3,7 +3,8 @@ use Rattle.std.proofs.lemmas.Iterator.Consumers.{YieldsList-from_first}
 use Rattle.spec.specs.Hall.{hall_can_end}
 use Rattle.motion.specs.States.{robot_no}
 use Rattle.reaching.specs.declared.row.Row.{Row}
-use Rattle.reaching.specs.Row.{row_of, robots_left, same_from_eq}
+use Rattle.motion.specs.Compared.{same_from_eq}
+use Rattle.reaching.specs.Row.{row_of, robots_left}
 use Rattle.reaching.proofs.reach.can_end.Goals as goal
 
 pub returns : goal.returns

@@ -1,4 +1,4 @@
-use Rattle.std.proofs.Common.{◌≡◌, map, ap, sym, arith}
+use Rattle.std.proofs.Common.{◌≡◌, map, ap, sym, arith, rules, tests}
 use Rattle.std.proofs.lemmas.List.{length-map, map-append}
 use Rattle.std.proofs.lemmas.Iterator.Consumers.{YieldsList-from_first, YieldsList-turn, YieldsList-end}
 use Rattle.spec.specs.State.{arrangement_of}
@@ -7,10 +7,10 @@ use Rattle.motion.specs.States.{robot_no}
 use Rattle.motion.specs.Across.{arrangement_length}
 use Rattle.reaching.specs.Row.{row_of, robots_left, counted_none, counted_before, counted_after}
 use Rattle.reaching.proofs.reach.count_robots.Goals as goal
-use Rattle.reaching.proofs.reach.count_robots.Goals.{then-lower-all+then-r-named, else-lower-all, else-lower-all-via-then-lower-all+else-r-named, else-lower-all-via-else-lower-all}
+use Rattle.reaching.proofs.reach.count_robots.Goals.{then-lower-all+then-ne, else-lower-all, else-lower-all-via-then-lower-all+else-ne, else-lower-all-via-else-lower-all}
 
 pub loop-r-init : goal.loop-r-init
-loop-r-init c = (tt, tt, counted_none c.args.named)
+loop-r-init c = (tt, tt, counted_none c.args.named.0)
 
 pub overflow_add-lower : goal.overflow_add-lower
 overflow_add-lower c =
@@ -33,15 +33,15 @@ loop-r-preserved c =
     let o = c.loop-r in
     let rs = map robot_no o.yielded in
     elim c.if-lower-all.branch [
-      | then-lower-all+then-r-named w ↦
-          (tt, tt, rw (w.lower-is, map-append) (counted_before rs c.args.named c.in-Some.r.0 o.lower o.all o.invariant.2 w.if-lower-all.true w.if-r-named.true))
+      | then-lower-all+then-ne w ↦
+          (tt, tt, rw (w.lower-is, map-append) (counted_before rs c.args.named.0 c.in-Some.r.0 o.lower o.all o.invariant.2 w.if-lower-all.true (search (rules, tests))))
       | else-lower-all w ↦
-          let met : o.lower ≡ o.all → c.in-Some.r.0 ≡ c.args.named =
+          let met : o.lower ≡ o.all → c.in-Some.r.0 ≡ c.args.named.0 =
           elim w.else-lower-all.branch [
-            | else-lower-all-via-then-lower-all+else-r-named v ↦ λ e. v.if-r-named.false
+            | else-lower-all-via-then-lower-all+else-ne v ↦ λ e. search (rules, tests)
             | else-lower-all-via-else-lower-all v ↦ λ e. absurd (v.if-lower-all.false e)
           ] in
-          (tt, tt, rw (w.lower-is, map-append) (counted_after rs c.args.named c.in-Some.r.0 o.lower o.all o.invariant.2 met))
+          (tt, tt, rw (w.lower-is, map-append) (counted_after rs c.args.named.0 c.in-Some.r.0 o.lower o.all o.invariant.2 met))
     ]
 
 pub returns : goal.returns

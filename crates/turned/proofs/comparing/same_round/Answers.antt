@@ -3,7 +3,8 @@ use Rattle.std.proofs.lemmas.Iterator.{YieldsList-from_slice, YieldsList-from_ma
 use Rattle.std.proofs.lemmas.Iterator.Consumers.{YieldsList-at, YieldsList-from_chain, YieldsList-from_filter}
 use Rattle.spec.specs.Outcome.{same_list}
 use Rattle.spec.specs.State.{robot_on}
-use Rattle.turned.specs.Comparing.{robot?, number, robots_listed, robots_round, same_from_eq}
+use Rattle.motion.specs.Compared.{same_from_eq}
+use Rattle.turned.specs.Comparing.{robot?, number, robots_listed, robots_round}
 use Rattle.turned.proofs.comparing.same_round.Goals as goal
 
 pub returns : goal.returns

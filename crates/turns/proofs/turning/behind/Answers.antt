@@ -20,9 +20,11 @@ returns-then-ne c =
     let k = c.loop-k.k - 1 - 1 in
     let l : k + 1 < length z = omega arith in
     let n : k + 1 ≡ c.loop-k.k - 1 = omega arith in
-    let r : cell_of c.robot_at-r.result.0 ≡ cell (arrangement_of a.state.now z) (wrap (length z) (a.j + (k + 1))) = c.robot_at-r.ensures ∙ ap (cell (arrangement_of a.state.now z)) (c.around.ensures ∙ ap (λ (i : ℕ). wrap (length z) (a.j + i)) (sym n)) in
-    walk_taken a.state.now z a.j (search rules) k c.robot_at-r.result.0 l r (search (rules, tests))
-    ∙ ap (λ (i : ℕ). last_named (take i (opened a.j (arrangement_of a.state.now z)))) n ∙ c.loop-k.invariant
+    let r : cell_of c.robot_at-r.result.0 ≡ cell (arrangement_of a.state.now z) (wrap (length z) (a.j + (k + 1))) = c.robot_at-r.ensures ∙ ap (cell (arrangement_of a.state.now z)) (c.around.ensures ∙ ap (λ (i : ℕ). wrap (length z) (a.j + i)) (sym n)) in (
+      walk_taken a.state.now z a.j (search rules) k c.robot_at-r.result.0 l r (search (rules, tests))
+          ∙ ap (λ (i : ℕ). last_named (take i (opened a.j (arrangement_of a.state.now z)))) n ∙ c.loop-k.invariant,
+      search (rules, tests),
+    )
 
 pub loop-k-preserved : goal.loop-k-preserved
 loop-k-preserved c =
@@ -38,4 +40,4 @@ loop-k-preserved c =
 pub returns : goal.returns
 returns c =
     let a = c.args in
-    walk_over a.state.now a.zone.now a.j (search rules) (c.loop-k.k - 1) (omega arith) ∙ c.loop-k.invariant
+    sym (walk_over a.state.now a.zone.now a.j (search rules) (c.loop-k.k - 1) (omega arith) ∙ c.loop-k.invariant)
