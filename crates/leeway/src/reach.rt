@@ -1,5 +1,5 @@
 // What can be reached in a zone of a kind.
-ghost use Rattle.std.specs.Prelude.{◌≡◌, ◌≤◌, ◌<◌, length, eqb};
+ghost use Rattle.std.specs.Prelude.{◌≡◌, ◌≢◌, ◌≤◌, ◌<◌, length, eqb, MatchOption};
 ghost use Rattle.numbering.specs.Kind.{number_of};
 ghost use Rattle.spec.specs.Outcome.{◌and◌};
 ghost use Rattle.spec.specs.Arrangement.{full, last_free};
@@ -10,14 +10,21 @@ ghost use Rattle.spec.specs.ZoneKind.{behind_of, can_leave, can_enter, can_end};
 use motion::State;
 use numbering::{Robot, ZoneKind};
 
-// "in a ring, the first cart met going backward from to, 255 if the ring is empty"
-fn behind_round(state: &State, zone: &[u8], j: usize) -> u8
-    requires { j < length zone.now }
-    ensures { result ≡ ring_behind (arrangement_of state.now zone.now) j }
+// A neighbour as a step names it: 255 for none.
+fn named(nearest: Option<Robot>) -> u8
+    ensures { MatchOption nearest (result ≡ 255) (λ r. result ≡ r.0) }
 {
-    let r = reaching::reach::behind(state, zone, 0, j);
-    if r != 255 {
-        return r;
+    nearest.map_or(255, |r| r.0)
+}
+
+// "in a ring, the first cart met going backward from to"; none if the ring is empty.
+fn behind_round(state: &State, zone: &[u8], j: usize) -> Option<Robot>
+    requires { j < length zone.now }
+    ensures { MatchOption result (ring_behind (arrangement_of state.now zone.now) j ≡ 255)
+        (λ r. (ring_behind (arrangement_of state.now zone.now) j ≡ r.0) × (r.0 ≢ 255)) }
+{
+    if let Some(r) = reaching::reach::behind(state, zone, 0, j) {
+        return Some(r);
     }
     reaching::reach::behind(state, zone, j + 1, zone.len())
 }
@@ -29,8 +36,8 @@ pub fn behind_of(kind: ZoneKind, state: &State, zone: &[u8], j: usize) -> u8
 {
     match kind {
         ZoneKind::Clique => 255,
-        ZoneKind::Ring => behind_round(state, zone, j),
-        _ => reaching::reach::behind(state, zone, 0, j),
+        ZoneKind::Ring => named(behind_round(state, zone, j)),
+        _ => named(reaching::reach::behind(state, zone, 0, j)),
     }
 }
 

@@ -5,39 +5,31 @@ ghost use Rattle.spec.specs.State.{arrangement_of, across};
 ghost use Rattle.spec.specs.ZoneKind.{can_leave, can_end};
 ghost use Rattle.theory.specs.Zones.Crossing.{Proper, extra_of};
 ghost use Rattle.motion.specs.World.{world, made_all};
-ghost use Rattle.motion.specs.Coupling.{Listed};
 ghost use Rattle.clique.specs.Entering.{Numbered};
 ghost use Rattle.walking.specs.Kinds.{leave_moves, enter_moves, end_moves};
 
-use motion::State;
-use numbering::{Place, Robot, ZoneKind, ZoneVertices};
+use motion::{ListedVertices, State};
+use numbering::{Place, Robot, ZoneKind};
 
 // The moves that bring robot r, which can leave there, to place j.
+// A place and its zone stay two values: each kind's moves take them apart, a hall's as a place alone.
 pub fn leave(
     kind: ZoneKind,
     state: &mut State,
     count: usize,
-    zone: &[u8],
+    zone: ListedVertices,
     r: Robot,
     j: usize,
     out: &mut [u8],
 ) -> usize
-    requires zone_len_bound { (length zone.now ≤ 128) × (j < length zone.now) }
-    requires listed { Listed (length state.old.robots) zone.now }
-    requires j_value { can_leave (number_of kind) (arrangement_of state.old zone.now) r.0 j ≡ true }
-    ensures { world state.new result out.new ≡ made_all (world state.old count out.old) (across zone.now (leave_moves (number_of kind) (arrangement_of state.old zone.now) r.0 j)) }
+    requires j_in_bounds { j < length zone.vertices.now }
+    requires j_value { can_leave (number_of kind) (arrangement_of state.old zone.vertices.now) r.0 j ≡ true }
+    ensures { world state.new result out.new ≡ made_all (world state.old count out.old) (across zone.entry.vertices.now (leave_moves (number_of kind) (arrangement_of state.old zone.entry.vertices.now) r.0 j)) }
 {
     match kind {
-        ZoneKind::Clique => vacating::leave(state, count, zone, r, j, out),
+        ZoneKind::Clique => vacating::leave(state, count, zone.vertices, r, j, out),
         ZoneKind::Ring => ring::leave(state, count, zone, r, j, out),
-        _ => hall::leave(
-            state,
-            count,
-            ZoneVertices { vertices: zone },
-            r,
-            Place { index: j },
-            out,
-        ),
+        _ => hall::leave(state, count, zone.short(), r, Place { index: j }, out),
     }
 }
 
@@ -46,37 +38,23 @@ pub fn enter(
     kind: ZoneKind,
     state: &mut State,
     count: usize,
-    zone: &[u8],
+    zone: ListedVertices,
     j: usize,
     behind: u8,
     list: &[u8],
     out: &mut [u8],
 ) -> usize
-    requires zone_len_bound { (length zone.now ≤ 128) × (j < length zone.now) × (length list.now ≤ 128) }
-    requires listed { Listed (length state.old.robots) zone.now }
+    requires j_in_bounds { j < length zone.vertices.now }
+    requires list_short { length list.now ≤ 128 }
     requires numbered { Numbered list.now j }
-    requires proper { Proper (arrangement_of state.old zone.now) }
-    requires list_len { length list.now ≡ extra_of (number_of kind) (arrangement_of state.old zone.now) }
-    ensures { world state.new result out.new ≡ made_all (world state.old count out.old) (across zone.now (enter_moves (number_of kind) (arrangement_of state.old zone.now) j behind list.now)) }
+    requires proper { Proper (arrangement_of state.old zone.vertices.now) }
+    requires list_len { length list.now ≡ extra_of (number_of kind) (arrangement_of state.old zone.vertices.now) }
+    ensures { world state.new result out.new ≡ made_all (world state.old count out.old) (across zone.entry.vertices.now (enter_moves (number_of kind) (arrangement_of state.old zone.entry.vertices.now) j behind list.now)) }
 {
     match kind {
-        ZoneKind::Clique => clique::enter(state, count, zone, j, list, out),
-        ZoneKind::Ring => ring::enter(
-            state,
-            count,
-            ZoneVertices { vertices: zone },
-            j,
-            behind,
-            out,
-        ),
-        _ => hall::enter(
-            state,
-            count,
-            ZoneVertices { vertices: zone },
-            Place { index: j },
-            behind,
-            out,
-        ),
+        ZoneKind::Clique => clique::enter(state, count, zone.vertices, j, list, out),
+        ZoneKind::Ring => ring::enter(state, count, zone, j, behind, out),
+        _ => hall::enter(state, count, zone.short(), Place { index: j }, behind, out),
     }
 }
 
@@ -85,19 +63,17 @@ pub fn bring_to_goals(
     kind: ZoneKind,
     state: &mut State,
     count: usize,
-    zone: &[u8],
+    zone: ListedVertices,
     goals: &State,
     out: &mut [u8],
 ) -> usize
-    requires zone_len_bound { length zone.now ≤ 128 }
-    requires listed { Listed (length state.old.robots) zone.now }
-    requires zone_value { can_end (number_of kind) (arrangement_of state.old zone.now) (arrangement_of goals.now zone.now) ≡ true }
-    requires proper { Proper (arrangement_of state.old zone.now) }
-    ensures { world state.new result out.new ≡ made_all (world state.old count out.old) (across zone.now (end_moves (number_of kind) (arrangement_of state.old zone.now) (arrangement_of goals.now zone.now))) }
+    requires zone_value { can_end (number_of kind) (arrangement_of state.old zone.vertices.now) (arrangement_of goals.now zone.vertices.now) ≡ true }
+    requires proper { Proper (arrangement_of state.old zone.vertices.now) }
+    ensures { world state.new result out.new ≡ made_all (world state.old count out.old) (across zone.entry.vertices.now (end_moves (number_of kind) (arrangement_of state.old zone.entry.vertices.now) (arrangement_of goals.now zone.entry.vertices.now))) }
 {
     match kind {
-        ZoneKind::Clique => clique::bring_to_goals(state, count, zone, goals, out),
-        ZoneKind::Ring => ring::end(state, count, ZoneVertices { vertices: zone }, goals, out),
-        _ => hall::end(state, count, ZoneVertices { vertices: zone }, goals, out),
+        ZoneKind::Clique => clique::bring_to_goals(state, count, zone.vertices, goals, out),
+        ZoneKind::Ring => ring::end(state, count, zone, goals, out),
+        _ => hall::end(state, count, zone.short(), goals, out),
     }
 }
