@@ -81,7 +81,9 @@ pub fn push_to(
     requires zone_in_bounds { seek (suc r.0) (arrangement_of state.old zone.now) < length zone.now }
     ensures { world state.new result out.new ≡ made_all (world state.old count out.old) (across zone.now (push_to (arrangement_of state.old zone.now) r.0 j)) }
 {
-    let p = place_of(state, zone, r);
+    let Some(p) = place_of(state, zone, r) else {
+        return count;
+    };
     let n = distance(zone.len(), p, j);
     push_times(state, count, zone, p, n, out)
 }

@@ -30,7 +30,7 @@ loop-preserved c =
     let q = c.open_target-q.result in
     let w = world o.state o.count o.out in
     let here : c.open_target-q.result ≡ open_target o.cells g = c.open_target-q.ensures ∙ sym o.invariant.search in
-    let d : a.n - o.counter - 1 ≡ a.n - (o.counter + 1) = omega arith in
+    let d : a.most - o.counter - 1 ≡ a.most - (o.counter + 1) = omega arith in
     elim c.if-q-cells.branch [
       | then-q-cells u ↦
           let x = cell g q in
@@ -45,7 +45,7 @@ loop-preserved c =
             search = next.on i u.min-from.result _ s u.min-from.ensures e;
             table = tabled_moved o.table _ o.cells _ x i q o.invariant.table next.somebody t.2 s next.empty next.inside t.1 e;
             moves = made_more w _ a.zone.now (mv (x - 1) i q) _ _ u.go-count.ensures.out_after
-                (next.move (a.n - o.counter) i _ (omega arith) s e ∙ ap (λ (k : ℕ). mv (x - 1) i q ∷ clique_to k u.go-count.new.cells g) d)
+                (next.move (a.most - o.counter) i _ (omega arith) s e ∙ ap (λ (k : ℕ). mv (x - 1) i q ∷ clique_to k u.go-count.new.cells g) d)
                 ∙ o.invariant.moves;
           })
       | else-q-cells+else-x-eq0 u ↦
@@ -63,7 +63,7 @@ loop-preserved c =
             search = next.on i i _ s m e;
             table = tabled_moved o.table _ o.cells _ x i j o.invariant.table next.somebody t.2 s next.empty next.inside t.1 e;
             moves = made_more w _ a.zone.now (mv (x - 1) i j) _ _ u.go-count-else-q-cells.ensures.out_after
-                (next.move (a.n - o.counter) i _ (omega arith) s e ∙ ap (λ (k : ℕ). mv (x - 1) i j ∷ clique_to k u.go-count-else-q-cells.new.cells g) d)
+                (next.move (a.most - o.counter) i _ (omega arith) s e ∙ ap (λ (k : ℕ). mv (x - 1) i j ∷ clique_to k u.go-count-else-q-cells.new.cells g) d)
                 ∙ o.invariant.moves;
           })
     ]
