@@ -38,10 +38,10 @@ pub fn turn_place(state: &State, zone: &[u8], j: usize, named: Robot) -> Option<
         return Some(j);
     }
     let b = behind(state, zone, j);
-    if b == named || b == Robot(255) {
+    if b == named {
         return None;
     }
-    Some(place_of(state, zone, b))
+    place_of(state, zone, b)
 }
 
 // Does the robot pushed from place p go on alone: p is not place j, and nobody stands on the place after it.
