@@ -30,8 +30,7 @@ pub fn stands(state: &State, zone: &[u8], r: Robot, j: usize) -> bool
 pub fn seek_robot(state: &State, zone: &[u8], r: Robot) -> Option<usize>
     ensures { PlaceFound (length zone.now) (seek (cell_of r.0) (arrangement_of state.now zone.now)) result }
 {
-    zone.iter()
-        .position(|v| r == state.robot_on(Vertex(*v)))
+    zone.iter().position(|v| r == state.robot_on(Vertex(*v)))
 }
 
 // The place of a robot; none where it is not in the zone.

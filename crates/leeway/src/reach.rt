@@ -7,8 +7,9 @@ ghost use Rattle.spec.specs.Ring.{ring_behind};
 ghost use Rattle.spec.specs.State.{arrangement_of};
 ghost use Rattle.spec.specs.ZoneKind.{behind_of, can_leave, can_enter, can_end};
 
+use clique::FollowList;
 use motion::State;
-use numbering::{Robot, ZoneKind};
+use numbering::{Robot, ZoneKind, ZoneVertices};
 
 // "in a ring, the first cart met going backward from to, 255 if the ring is empty"
 fn behind_round(state: &State, zone: &[u8], j: usize) -> u8
@@ -77,7 +78,14 @@ pub fn can_enter(
     ensures { result ≡ can_enter (number_of kind) (arrangement_of state.now zone.now) r.0 j behind list.now }
 {
     match kind {
-        ZoneKind::Clique => clique::can_enter(state, zone, r, j, behind, list),
+        ZoneKind::Clique => clique::can_enter(
+            state,
+            ZoneVertices { vertices: zone },
+            r,
+            j,
+            behind,
+            FollowList { names: list },
+        ),
         ZoneKind::Ring => turned::can_enter(state, zone, j, behind),
         _ => reaching::reach::can_enter(state, zone, j, behind),
     }
@@ -89,7 +97,7 @@ pub fn can_end(kind: ZoneKind, state: &State, zone: &[u8], goals: &State) -> boo
     ensures { result ≡ can_end (number_of kind) (arrangement_of state.now zone.now) (arrangement_of goals.now zone.now) }
 {
     match kind {
-        ZoneKind::Clique => clique::can_end(state, zone, goals),
+        ZoneKind::Clique => clique::can_end(state, ZoneVertices { vertices: zone }, goals),
         ZoneKind::Ring => turned::can_end(state, zone, goals),
         _ => reaching::reach::can_end(state, zone, goals),
     }

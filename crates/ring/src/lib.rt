@@ -79,7 +79,9 @@ pub fn end(state: &mut State, count: usize, zone: &[u8], goals: &State, out: &mu
     let Some(r) = lowest(state, zone) else {
         return count;
     };
-    let j = place_of(goals, zone, r);
+    let Some(j) = place_of(goals, zone, r) else {
+        return count;
+    };
     let pushed = push_to(state, count, zone, r, j, out);
     let mut buffer = [0u8; 128];
     let others = &mut buffer[..zone.len() - 1];

@@ -10,7 +10,7 @@ ghost use Rattle.clique.specs.Entering.{Numbered};
 ghost use Rattle.walking.specs.Kinds.{leave_moves, enter_moves, end_moves};
 
 use motion::State;
-use numbering::{Robot, ZoneKind};
+use numbering::{Robot, ZoneKind, ZoneVertices};
 
 // The moves that bring robot r, which can leave there, to place j.
 pub fn leave(
@@ -53,7 +53,14 @@ pub fn enter(
     ensures { world state.new result out.new ≡ made_all (world state.old count out.old) (across zone.now (enter_moves (number_of kind) (arrangement_of state.old zone.now) j behind list.now)) }
 {
     match kind {
-        ZoneKind::Clique => clique::enter(state, count, zone, j, list, out),
+        ZoneKind::Clique => clique::enter(
+            state,
+            count,
+            ZoneVertices { vertices: zone },
+            j,
+            list,
+            out,
+        ),
         ZoneKind::Ring => ring::enter(state, count, zone, j, behind, out),
         _ => hall::enter(state, count, zone, j, behind, out),
     }
@@ -75,7 +82,13 @@ pub fn bring_to_goals(
     ensures { world state.new result out.new ≡ made_all (world state.old count out.old) (across zone.now (end_moves (number_of kind) (arrangement_of state.old zone.now) (arrangement_of goals.now zone.now))) }
 {
     match kind {
-        ZoneKind::Clique => clique::bring_to_goals(state, count, zone, goals, out),
+        ZoneKind::Clique => clique::bring_to_goals(
+            state,
+            count,
+            ZoneVertices { vertices: zone },
+            goals,
+            out,
+        ),
         ZoneKind::Ring => ring::end(state, count, zone, goals, out),
         _ => hall::end(state, count, zone, goals, out),
     }

@@ -8,7 +8,7 @@ use mathlib.Core.Path.{ap, ◌∙◌}
 use Rattle.zones.proofs.moves.bring_to_goals.Goals as goal
 
 pub bring_to_goals-requires : goal.bring_to_goals-requires
-bring_to_goals-requires c = record { zone_len_bound = c.requires.zone_len_bound; distinct = c.requires.proper.once }
+bring_to_goals-requires c = c.requires.proper.once
 
 pub end-requires : goal.end-requires
 end-requires c = record { zone_len_bound = c.requires.zone_len_bound; listed = c.requires.listed; zone_value = ring_can_end_lem _ (ap number_of c.in-Ring.is) _ _ ∙ c.requires.zone_value }
