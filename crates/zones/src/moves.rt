@@ -52,15 +52,9 @@ pub fn enter(
     requires list_len { length list.now ≡ extra_of (number_of kind) (arrangement_of state.old zone.now) }
     ensures { world state.new result out.new ≡ made_all (world state.old count out.old) (across zone.now (enter_moves (number_of kind) (arrangement_of state.old zone.now) j behind list.now)) }
 {
+    let vertices = ZoneVertices { vertices: zone };
     match kind {
-        ZoneKind::Clique => clique::enter(
-            state,
-            count,
-            ZoneVertices { vertices: zone },
-            j,
-            list,
-            out,
-        ),
+        ZoneKind::Clique => clique::enter(state, count, vertices, j, list, out),
         ZoneKind::Ring => ring::enter(state, count, zone, j, behind, out),
         _ => hall::enter(state, count, zone, j, behind, out),
     }
@@ -81,14 +75,9 @@ pub fn bring_to_goals(
     requires proper { Proper (arrangement_of state.old zone.now) }
     ensures { world state.new result out.new ≡ made_all (world state.old count out.old) (across zone.now (end_moves (number_of kind) (arrangement_of state.old zone.now) (arrangement_of goals.now zone.now))) }
 {
+    let vertices = ZoneVertices { vertices: zone };
     match kind {
-        ZoneKind::Clique => clique::bring_to_goals(
-            state,
-            count,
-            ZoneVertices { vertices: zone },
-            goals,
-            out,
-        ),
+        ZoneKind::Clique => clique::bring_to_goals(state, count, vertices, goals, out),
         ZoneKind::Ring => ring::end(state, count, zone, goals, out),
         _ => hall::end(state, count, zone, goals, out),
     }
