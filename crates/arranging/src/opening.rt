@@ -1,6 +1,7 @@
 // An open target: a place that is empty and some robot's target.
-ghost use Rattle.std.specs.Prelude.{◌≡◌, ℕ, ◌+◌, ◌<◌, ◌≤◌, false, length, drop, slice_index};
+ghost use Rattle.std.specs.Prelude.{◌≡◌, ℕ, ◌+◌, ◌<◌, ◌≤◌, min, max, false, length, drop, slice_index};
 ghost use Rattle.spec.specs.Clique.{open_target};
+ghost use Rattle.cells.specs.Cells.{PlaceFound};
 ghost use Rattle.arranging.specs.Toward.{open_place};
 
 // Does nobody stand on a place, and is it somebody's target? x is what stands there, y what is to stand there.
@@ -23,10 +24,12 @@ fn has_open(cells: &[u8], goal: &[u8]) -> bool
 
 // From where on an open target is to be looked for: none of the places before is one.
 // The loop goes by sixteen, and ends where fewer are left or one of them is open.
-fn pass_sixteens(cells: &[u8], goal: &[u8], n: usize, from: usize) -> usize
-    requires { (from ≤ n) × (n ≤ length cells.now) × (n ≤ length goal.now) }
-    ensures { (result ≤ n) × (result + open_target (drop result cells.now) (drop result goal.now) ≡ from + open_target (drop from cells.now) (drop from goal.now)) }
+fn pass_sixteens(cells: &[u8], goal: &[u8], from: usize) -> usize
+    requires { from ≤ min (length cells.now) (length goal.now) }
+    ensures within { result ≤ min (length cells.now) (length goal.now) }
+    ensures passed { result + open_target (drop result cells.now) (drop result goal.now) ≡ from + open_target (drop from cells.now) (drop from goal.now) }
 {
+    let n = cells.len().min(goal.len());
     let mut i = from;
     while 16 <= n - i && !has_open(&cells[i..i + 16], &goal[i..i + 16]) {
         i += 16;
@@ -34,19 +37,22 @@ fn pass_sixteens(cells: &[u8], goal: &[u8], n: usize, from: usize) -> usize
     i
 }
 
-// The earliest place that is empty and some robot's target, looked for from a place on; the size where there is none.
+// The earliest place that is empty and some robot's target, looked for from a place on.
 // The place itself is often the one; after it sixteen are looked at together, as far as they go.
-pub fn open_target(cells: &[u8], goal: &[u8], from: usize) -> usize
-    ensures { result ≡ from + open_target (drop from cells.now) (drop from goal.now) }
+pub fn open_target(cells: &[u8], goal: &[u8], from: usize) -> Option<usize>
+    ensures { PlaceFound (max from (min (length cells.now) (length goal.now))) (from + open_target (drop from cells.now) (drop from goal.now)) result }
 {
     let n = cells.len().min(goal.len());
-    if n <= from || is_open(cells[from], goal[from]) {
-        return from;
+    if n <= from {
+        return None;
     }
-    for i in pass_sixteens(cells, goal, n, from)..n {
+    if is_open(cells[from], goal[from]) {
+        return Some(from);
+    }
+    for i in pass_sixteens(cells, goal, from)..n {
         if is_open(cells[i], goal[i]) {
-            return i;
+            return Some(i);
         }
     }
-    n
+    None
 }

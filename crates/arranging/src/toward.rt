@@ -14,6 +14,7 @@ use tabling::placing::first_empty;
 use tabling::table::Table;
 
 // The robot of cell y where it is not what stands there, x; 255, which is higher than all, where it is, or where there is none.
+// No Option: 255 is the format's word for nobody, and the least of an Option's values would be None, and no robot.
 fn robot_off(x: u8, y: u8) -> u8
     ensures { result ≡ robot_off x y }
 {
@@ -31,7 +32,7 @@ fn lowest_off(cells: &[u8], goal: &[u8]) -> u8
     cell_of(Robot(lowest))
 }
 
-// At most n moves towards an arrangement of as many places, where no robot stands twice:
+// At most `most` moves towards an arrangement of as many places, where no robot stands twice:
 // "while a cart is off target, if some such cart's target is empty, the one whose target is listed earliest moves there;
 // otherwise the lowest-numbered such cart moves to the earliest listed empty point". A target opens only where a robot left, so the next one is looked for from there,
 // and past the place that was taken. The robots' places are kept in a table.
@@ -41,18 +42,17 @@ pub fn go_toward(
     zone: &[u8],
     cells: &mut [u8],
     goal: &[u8],
-    n: usize,
+    most: usize,
     out: &mut [u8],
 ) -> usize
     requires { (length cells.old ≤ 128) × (length goal.now ≡ length cells.old) × Distinct cells.old }
-    ensures { world state.new result out.new ≡ made_all (world state.old count out.old) (across zone.now (clique_to n cells.old goal.now)) }
+    ensures { world state.new result out.new ≡ made_all (world state.old count out.old) (across zone.now (clique_to most cells.old goal.now)) }
 {
     let mut table = Table::of(cells);
     let mut count = count;
     let mut from = 0;
-    for _ in 0..n {
-        let q = open_target(cells, goal, from);
-        if q < cells.len() {
+    for _ in 0..most {
+        if let Some(q) = open_target(cells, goal, from) {
             let x = goal[q];
             let i = table.go(x, q);
             from = i.min(q + 1);
@@ -62,7 +62,7 @@ pub fn go_toward(
             if x == 0 {
                 return count;
             }
-            let j = first_empty(cells);
+            let j = first_empty(cells).unwrap_or(cells.len());
             from = table.go(x, j);
             count = go(state, count, zone, cells, x, from, j, out);
         }

@@ -1,7 +1,7 @@
 -- What is read of a zone's arrangement from the state, place by place.
 use Rattle.std.specs.Prelude.{◌≡◌, refl, ◌≢◌, Bool, true, false, not, Option, ℕ, zero, suc, ◌+◌, ◌<◌, ◌≤◌, List, [], ◌∷◌, length, get_or, drop, eqb, ltb}
 use Rattle.std.specs.List.{AllWithin, HoldsAt, list_all}
-use Rattle.std.specs.Option.{MatchOption, unwrap_or}
+use Rattle.std.specs.Option.{MatchOption}
 use Rattle.std.proofs.lemmas.Iterator.{index_from_first}
 use Rattle.std.proofs.Math.Path.{ap, sym}
 use Rattle.std.proofs.Common.{◌∙◌, add-one, arith, drop_of_length-le, eq-eqb, ne_eqb, lt-ltb, le-ltb}
@@ -13,7 +13,7 @@ use Rattle.spec.specs.State.{State, robot_on, cell_of, arrangement_of}
 use Rattle.theory.specs.Basics.Tests.{Eqb, same, other, eqb?, Ltb, less, more, ltb?}
 use Rattle.theory.specs.Maps.Cells.{cell_of_lem, cell_none, cell_robot, cell_injective}
 use Rattle.theory.specs.Zones.Arrangements.{order_short}
-use Rattle.cells.specs.Cells.{seek_same, seek_other}
+use Rattle.cells.specs.Cells.{PlaceFound, found_is, seek_same, seek_other}
 use Rattle.motion.specs.Across.{arrangement_length, arrangement_at, arrangement_next}
 
 -- the numbers that pass a test together pass it one higher
@@ -86,16 +86,17 @@ seek_nobody s (v ∷ vs) r e =
     let n : (suc r ≡ cell_of (robot_on s v) → ⊥) = λ q. cell_under (robot_on s v) (ap suc (sym e) ∙ q) in
     ap suc (seek_nobody s vs r e) ∙ sym (seek_other (suc r) (cell_of (robot_on s v)) (arrangement_of s vs) n)
 
--- the search for a robot is the library's, with the size where it finds none
+-- the search for a robot is the library's
 pub robot_first : (s : State) (r : ℕ) (vs : List ℕ) (o : Option ℕ)
     → MatchOption o (AllWithin (λ v. r ≢ robot_on s v) vs 0 (length vs)) (λ i. (i < length vs) × HoldsAt (λ v. r ≡ robot_on s v) vs i × AllWithin (λ v. r ≢ robot_on s v) vs 0 i)
-    → seek (cell_of r) (arrangement_of s vs) ≡ unwrap_or o (length vs)
+    → PlaceFound (length vs) (seek (cell_of r) (arrangement_of s vs)) o
 unfolding seek arrangement_of
 robot_first s r vs o h =
-    index_from_first (λ l. seek (cell_of r) (arrangement_of s l)) (λ v. r ≡ robot_on s v) (λ v. r ≢ robot_on s v) refl
+    found_is (λ v. r ≡ robot_on s v) (λ v. r ≢ robot_on s v) vs (seek (cell_of r) (arrangement_of s vs)) o h
+    (index_from_first (λ l. seek (cell_of r) (arrangement_of s l)) (λ v. r ≡ robot_on s v) (λ v. r ≢ robot_on s v) refl
     (λ v l e. seek_same (cell_of r) (cell_of (robot_on s v)) (arrangement_of s l) (ap cell_of e))
     (λ v l n. seek_other (cell_of r) (cell_of (robot_on s v)) (arrangement_of s l) (λ q. n (cell_injective r (robot_on s v) q)) ∙ sym (add-one _))
-    vs o h
+    vs o h)
 
 -- a zone is full where on each of its vertices somebody stands
 pub full_all : (s : State) (vs : List ℕ) → list_all (λ v. not (eqb (robot_on s v) 255)) vs ≡ full (arrangement_of s vs)

@@ -1,9 +1,9 @@
 // The arrangement of a zone in lent cells, and a move in it.
-ghost use Rattle.std.specs.Prelude.{◌≡◌, ◌-◌, ◌<◌, get_or};
+ghost use Rattle.std.specs.Prelude.{◌≡◌, ◌-◌, ◌<◌, length, get_or};
 ghost use Rattle.spec.specs.Arrangement.{mv, seek, apply};
 ghost use Rattle.spec.specs.State.{arrangement_of, across_move, cell_of};
 ghost use Rattle.motion.specs.World.{world, made};
-ghost use Rattle.cells.specs.Cells.{overlaid};
+ghost use Rattle.cells.specs.Cells.{overlaid, PlaceFound};
 
 use motion::{State, cell_or, put_cell};
 use numbering::{Robot, Vertex};
@@ -29,11 +29,11 @@ pub fn cell_at(cells: &[u8], i: usize) -> u8
     cell_or(cells, i, 0)
 }
 
-// The earliest place at which x stands; the size where there is none.
-pub fn seek_cell(cells: &[u8], x: u8) -> usize
-    ensures { result ≡ seek x cells.now }
+// The earliest place at which x stands.
+pub fn seek_cell(cells: &[u8], x: u8) -> Option<usize>
+    ensures { PlaceFound (length cells.now) (seek x cells.now) result }
 {
-    cells.iter().position(|y| x == *y).unwrap_or(cells.len())
+    cells.iter().position(|y| x == *y)
 }
 
 // A robot as what stands on a place.

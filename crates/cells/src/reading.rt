@@ -1,12 +1,14 @@
 // What is read of a zone's arrangement, from the state.
-ghost use Rattle.std.specs.Prelude.{◌≡◌, suc, eqb};
+ghost use Rattle.std.specs.Prelude.{◌≡◌, suc, length, eqb};
 ghost use Rattle.spec.specs.Arrangement.{seek, cell, full};
 ghost use Rattle.spec.specs.State.{arrangement_of, cell_of};
+ghost use Rattle.cells.specs.Cells.{PlaceFound};
 
 use motion::State;
 use numbering::{Robot, Vertex};
 
 // The robot on a place; 255 where there is none, and where there is no such place.
+// No Option: a state's format has 255 for nobody, and so has what is compared with it.
 pub fn robot_at(state: &State, zone: &[u8], j: usize) -> Robot
     ensures { cell_of result.0 ≡ cell (arrangement_of state.now zone.now) j }
 {
@@ -24,21 +26,19 @@ pub fn stands(state: &State, zone: &[u8], r: Robot, j: usize) -> bool
     x != Robot(255) && x == r
 }
 
-// The earliest place on which r stands, or for 255 the earliest empty one; the size where there is none.
-pub fn seek_robot(state: &State, zone: &[u8], r: Robot) -> usize
-    ensures { result ≡ seek (cell_of r.0) (arrangement_of state.now zone.now) }
+// The earliest place on which r stands, or for 255 the earliest empty one.
+pub fn seek_robot(state: &State, zone: &[u8], r: Robot) -> Option<usize>
+    ensures { PlaceFound (length zone.now) (seek (cell_of r.0) (arrangement_of state.now zone.now)) result }
 {
-    zone.iter()
-        .position(|v| r == state.robot_on(Vertex(*v)))
-        .unwrap_or(zone.len())
+    zone.iter().position(|v| r == state.robot_on(Vertex(*v)))
 }
 
-// The place of a robot; the size where it is not in the zone.
-pub fn place_of(state: &State, zone: &[u8], r: Robot) -> usize
-    ensures { result ≡ seek (suc r.0) (arrangement_of state.now zone.now) }
+// The place of a robot; none where it is not in the zone.
+pub fn place_of(state: &State, zone: &[u8], r: Robot) -> Option<usize>
+    ensures { PlaceFound (length zone.now) (seek (suc r.0) (arrangement_of state.now zone.now)) result }
 {
     if r == Robot(255) {
-        return zone.len();
+        return None;
     }
     seek_robot(state, zone, r)
 }

@@ -88,7 +88,9 @@ pub fn push_to(
     ensures { world state.new result out.new ≡ made_all (world state.old count out.old) (across zone.entry.vertices.now (push_to (arrangement_of state.old zone.entry.vertices.now) r.0 j)) }
 {
     let ring = zone.vertices;
-    let p = place_of(state, ring, r);
+    let Some(p) = place_of(state, ring, r) else {
+        return count;
+    };
     let n = distance(ring.len(), p, j);
     push_times(state, count, zone, p, n, out)
 }

@@ -1,5 +1,5 @@
 // Bringing a clique to the goals.
-ghost use Rattle.std.specs.Prelude.{◌≡◌, ◌≤◌, length};
+ghost use Rattle.std.specs.Prelude.{◌≡◌};
 ghost use Rattle.spec.specs.Clique.{clique_can_end, clique_end};
 ghost use Rattle.spec.specs.State.{arrangement_of, across};
 ghost use Rattle.spec.specs.Terms.{Distinct};
@@ -9,12 +9,13 @@ use arranging::toward::go_toward;
 use cells::{cells_of, is_full};
 use comparing::{same_cells, same_robots};
 use motion::State;
+use numbering::ZoneVertices;
 
 // Is the goal arrangement in the configuration: in a full clique the arrangement itself, in any other one of the same robots?
-pub fn can_end(state: &State, zone: &[u8], goals: &State) -> bool
-    requires { length zone.now ≤ 128 }
-    ensures { result ≡ clique_can_end (arrangement_of state.now zone.now) (arrangement_of goals.now zone.now) }
+pub fn can_end(state: &State, zone: ZoneVertices, goals: &State) -> bool
+    ensures { result ≡ clique_can_end (arrangement_of state.now zone.entry.vertices.now) (arrangement_of goals.now zone.entry.vertices.now) }
 {
+    let zone = zone.vertices;
     let n = zone.len();
     let mut cells = [0; 128];
     let mut goal = [0; 128];
@@ -33,14 +34,15 @@ pub fn can_end(state: &State, zone: &[u8], goals: &State) -> bool
 pub fn bring_to_goals(
     state: &mut State,
     count: usize,
-    zone: &[u8],
+    zone: ZoneVertices,
     goals: &State,
     out: &mut [u8],
 ) -> usize
-    requires zone_len_bound { length zone.now ≤ 128 }
-    requires distinct { Distinct (arrangement_of state.old zone.now) }
-    ensures { world state.new result out.new ≡ made_all (world state.old count out.old) (across zone.now (clique_end (arrangement_of state.old zone.now) (arrangement_of goals.now zone.now))) }
+    // Kept a clause: it is of the state and the zone together, and a view of both can't be held while the state is changed.
+    requires { Distinct (arrangement_of state.old zone.vertices.now) }
+    ensures { world state.new result out.new ≡ made_all (world state.old count out.old) (across zone.entry.vertices.now (clique_end (arrangement_of state.old zone.entry.vertices.now) (arrangement_of goals.now zone.entry.vertices.now))) }
 {
+    let zone = zone.vertices;
     let n = zone.len();
     let mut cells = [0; 128];
     let mut goal = [0; 128];

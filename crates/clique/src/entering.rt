@@ -1,5 +1,5 @@
 // Entering a clique, with a follow list where it is filled.
-ghost use Rattle.std.specs.Prelude.{◌≡◌, true, false, ◌≢◌, map, ℕ, suc, ◌≤◌, ◌*◌, length, set, get_or, eqb};
+ghost use Rattle.std.specs.Prelude.{◌≡◌, true, false, ◌≢◌, map, ℕ, suc, ◌*◌, length, set, get_or, eqb};
 ghost use Rattle.spec.specs.Arrangement.{cell};
 ghost use Rattle.spec.specs.Clique.{named, same_robots, clique_to, clique_can_enter, clique_enter};
 ghost use Rattle.spec.specs.State.{arrangement_of, across, cell_of};
@@ -8,11 +8,12 @@ ghost use Rattle.theory.specs.Zones.Crossing.{extra_of};
 ghost use Rattle.motion.specs.World.{world, made_all};
 ghost use Rattle.clique.specs.Entering.{Numbered};
 
+use crate::follow::FollowList;
 use arranging::toward::go_toward;
 use cells::{cell_of, cells_of};
 use comparing::{same_cells, same_robots};
 use motion::{State, put_cell};
-use numbering::Robot;
+use numbering::{Robot, ZoneVertices};
 use vacating::last_free;
 use vacating::leaving::make_room;
 
@@ -27,7 +28,7 @@ fn names_robots(list: &[u8], j: usize) -> bool
 fn names_at(list: &[u8], j: usize, r: Robot) -> bool
     ensures { result ≡ eqb (cell (named list.now) j) (suc r.0) }
 {
-    j < list.len() && list[j] == r.0
+    j < list.len() && Robot(list[j]) == r
 }
 
 // The arrangement that a follow list gives the robots inside: place j is empty for the entering one.
@@ -42,10 +43,11 @@ fn goal_cells(list: &[u8], j: usize, goal: &mut [u8])
 }
 
 // Does a follow list name the robots inside beside the one at place j?
-fn names_inside(state: &State, zone: &[u8], j: usize, list: &[u8]) -> bool
-    requires { (length zone.now ≤ 128) × (length list.now ≤ 128) }
-    ensures { result ≡ same_robots (arrangement_of state.now zone.now) (set (named list.now) j 0) }
+fn names_inside(state: &State, zone: ZoneVertices, j: usize, list: FollowList) -> bool
+    ensures { result ≡ same_robots (arrangement_of state.now zone.entry.vertices.now) (set (named list.entry.names.now) j 0) }
 {
+    let zone = zone.vertices;
+    let list = list.names;
     let named = names_robots(list, j);
     if named {
         let mut cells = [0; 128];
@@ -60,17 +62,23 @@ fn names_inside(state: &State, zone: &[u8], j: usize, list: &[u8]) -> bool
 }
 
 // Can robot r enter at place j: "in a clique behind is 255, and if filled, the follow list names the new arrangement, the entering cart at to".
-pub fn can_enter(state: &State, zone: &[u8], r: Robot, j: usize, behind: u8, list: &[u8]) -> bool
-    requires { (length zone.now ≤ 128) × (length list.now ≤ 128) }
-    ensures { result ≡ clique_can_enter (arrangement_of state.now zone.now) r.0 j behind list.now }
+pub fn can_enter(
+    state: &State,
+    zone: ZoneVertices,
+    r: Robot,
+    j: usize,
+    behind: u8,
+    list: FollowList,
+) -> bool
+    ensures { result ≡ clique_can_enter (arrangement_of state.now zone.entry.vertices.now) r.0 j behind list.entry.names.now }
 {
     let behind_named = behind != 255;
     if behind_named {
         return false;
     }
-    let last = last_free(state, zone);
+    let last = last_free(state, zone.vertices);
     if last {
-        return names_at(list, j, r) && names_inside(state, zone, j, list);
+        return names_at(list.names, j, r) && names_inside(state, zone, j, list);
     }
     true
 }
@@ -79,15 +87,18 @@ pub fn can_enter(state: &State, zone: &[u8], r: Robot, j: usize, behind: u8, lis
 fn fill(
     state: &mut State,
     count: usize,
-    zone: &[u8],
+    zone: ZoneVertices,
     j: usize,
     list: &[u8],
     out: &mut [u8],
 ) -> usize
-    requires zone_len_bound { (length zone.now ≤ 128) × (length list.now ≡ length zone.now) × Numbered list.now j }
-    requires distinct { Distinct (arrangement_of state.old zone.now) }
-    ensures { world state.new result out.new ≡ made_all (world state.old count out.old) (across zone.now (clique_to (length zone.now * 2) (arrangement_of state.old zone.now) (set (named list.now) j 0))) }
+    requires list_len { length list.now ≡ length zone.vertices.now }
+    // Kept a clause: it is of the list and the place together, and a type of both would be taken apart again at each use.
+    requires numbered { Numbered list.now j }
+    requires distinct { Distinct (arrangement_of state.old zone.vertices.now) }
+    ensures { world state.new result out.new ≡ made_all (world state.old count out.old) (across zone.entry.vertices.now (clique_to (length zone.entry.vertices.now * 2) (arrangement_of state.old zone.entry.vertices.now) (set (named list.now) j 0))) }
 {
+    let zone = zone.vertices;
     let mut cells = [0; 128];
     let mut goal = [0; 128];
     let cells = &mut cells[..zone.len()];
@@ -106,17 +117,18 @@ fn fill(
 pub fn enter(
     state: &mut State,
     count: usize,
-    zone: &[u8],
+    zone: ZoneVertices,
     j: usize,
     list: &[u8],
     out: &mut [u8],
 ) -> usize
-    requires zone_len_bound { (length zone.now ≤ 128) × (length list.now ≡ extra_of 3 (arrangement_of state.old zone.now)) × Numbered list.now j }
-    requires distinct { Distinct (arrangement_of state.old zone.now) }
-    ensures { world state.new result out.new ≡ made_all (world state.old count out.old) (across zone.now (clique_enter (arrangement_of state.old zone.now) j list.now)) }
+    requires list_len { length list.now ≡ extra_of 3 (arrangement_of state.old zone.vertices.now) }
+    requires numbered { Numbered list.now j }
+    requires distinct { Distinct (arrangement_of state.old zone.vertices.now) }
+    ensures { world state.new result out.new ≡ made_all (world state.old count out.old) (across zone.entry.vertices.now (clique_enter (arrangement_of state.old zone.entry.vertices.now) j list.now)) }
 {
     if list.is_empty() {
-        return make_room(state, count, zone, j, out);
+        return make_room(state, count, zone.vertices, j, out);
     }
     fill(state, count, zone, j, list, out)
 }

@@ -7,8 +7,9 @@ ghost use Rattle.spec.specs.Ring.{ring_behind};
 ghost use Rattle.spec.specs.State.{arrangement_of};
 ghost use Rattle.spec.specs.ZoneKind.{behind_of, can_leave, can_enter, can_end};
 
+use clique::FollowList;
 use motion::State;
-use numbering::{Robot, ZoneKind};
+use numbering::{Robot, ZoneKind, ZoneVertices};
 
 // A neighbour as a step names it: 255 for none.
 fn named(nearest: Option<Robot>) -> u8
@@ -74,30 +75,28 @@ pub fn can_leave(kind: ZoneKind, state: &State, zone: &[u8], r: Robot, j: usize)
 pub fn can_enter(
     kind: ZoneKind,
     state: &State,
-    zone: &[u8],
+    zone: ZoneVertices,
     r: Robot,
     j: usize,
     behind: u8,
-    list: &[u8],
+    list: FollowList,
 ) -> bool
-    requires { (length zone.now ≤ 128) × (length list.now ≤ 128) }
-    ensures { result ≡ can_enter (number_of kind) (arrangement_of state.now zone.now) r.0 j behind list.now }
+    ensures { result ≡ can_enter (number_of kind) (arrangement_of state.now zone.entry.vertices.now) r.0 j behind list.entry.names.now }
 {
     match kind {
         ZoneKind::Clique => clique::can_enter(state, zone, r, j, behind, list),
-        ZoneKind::Ring => turned::can_enter(state, zone, j, behind),
-        _ => reaching::reach::can_enter(state, zone, j, behind),
+        ZoneKind::Ring => turned::can_enter(state, zone.vertices, j, behind),
+        _ => reaching::reach::can_enter(state, zone.vertices, j, behind),
     }
 }
 
 // Is the goals' arrangement in the configuration?
-pub fn can_end(kind: ZoneKind, state: &State, zone: &[u8], goals: &State) -> bool
-    requires { length zone.now ≤ 128 }
-    ensures { result ≡ can_end (number_of kind) (arrangement_of state.now zone.now) (arrangement_of goals.now zone.now) }
+pub fn can_end(kind: ZoneKind, state: &State, zone: ZoneVertices, goals: &State) -> bool
+    ensures { result ≡ can_end (number_of kind) (arrangement_of state.now zone.entry.vertices.now) (arrangement_of goals.now zone.entry.vertices.now) }
 {
     match kind {
         ZoneKind::Clique => clique::can_end(state, zone, goals),
-        ZoneKind::Ring => turned::can_end(state, zone, goals),
-        _ => reaching::reach::can_end(state, zone, goals),
+        ZoneKind::Ring => turned::can_end(state, zone.vertices, goals),
+        _ => reaching::reach::can_end(state, zone.vertices, goals),
     }
 }

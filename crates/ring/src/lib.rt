@@ -85,7 +85,9 @@ pub fn end(
     let Some(r) = lowest(state, ring) else {
         return count;
     };
-    let j = place_of(goals, ring, r);
+    let Some(j) = place_of(goals, ring, r) else {
+        return count;
+    };
     let pushed = push_to(state, count, zone, r, j, out);
     let mut buffer = [0u8; 128];
     let others = &mut buffer[..ring.len() - 1];

@@ -1,7 +1,8 @@
 // The earliest empty place, by the free word.
-ghost use Rattle.std.specs.Prelude.{◌≡◌};
+ghost use Rattle.std.specs.Prelude.{◌≡◌, length};
 ghost use Rattle.spec.specs.Arrangement.{Arrangement, seek};
 ghost use Rattle.spec.specs.State.{arrangement_of};
+ghost use Rattle.cells.specs.Cells.{PlaceFound};
 ghost use Rattle.tabling.specs.Places.{Tests, free_word};
 
 use motion::State;
@@ -19,32 +20,29 @@ fn free_word<F: Fn(u8) -> bool>(places: &[u8], is_empty: F) -> u64
     w
 }
 
-// The earliest empty place: the trailing zeros of the free word; the size where no place is empty.
+// The earliest empty place: the trailing zeros of the free word.
 // A clique has at most 64 places; a longer zone whose first 64 are taken is searched.
-fn earliest<F: Fn(u8) -> bool>(places: &[u8], is_empty: F) -> usize
+fn earliest<F: Fn(u8) -> bool>(places: &[u8], is_empty: F) -> Option<usize>
     requires { F.IsAlwaysCallable is_empty }
-    ensures { (a : Arrangement) → Tests (F.post is_empty) places.now a → result ≡ seek 0 a }
+    ensures { (a : Arrangement) → Tests (F.post is_empty) places.now a → PlaceFound (length places.now) (seek 0 a) result }
 {
     let w = free_word(places, &is_empty);
     if 0 < w {
-        return u64::trailing_zeros(w) as usize;
+        return Some(u64::trailing_zeros(w) as usize);
     }
-    places
-        .iter()
-        .position(|x| is_empty(*x))
-        .unwrap_or(places.len())
+    places.iter().position(|x| is_empty(*x))
 }
 
-// "the earliest listed empty point" of a zone; the size where no place is empty.
-pub fn first_free(state: &State, zone: &[u8]) -> usize
-    ensures { result ≡ seek 0 (arrangement_of state.now zone.now) }
+// "the earliest listed empty point" of a zone.
+pub fn first_free(state: &State, zone: &[u8]) -> Option<usize>
+    ensures { PlaceFound (length zone.now) (seek 0 (arrangement_of state.now zone.now)) result }
 {
     earliest(zone, |v| state.robot_on(Vertex(v)) == Robot(255))
 }
 
-// The earliest empty place of an arrangement in cells; the size where no place is empty.
-pub fn first_empty(cells: &[u8]) -> usize
-    ensures { result ≡ seek 0 cells.now }
+// The earliest empty place of an arrangement in cells.
+pub fn first_empty(cells: &[u8]) -> Option<usize>
+    ensures { PlaceFound (length cells.now) (seek 0 cells.now) result }
 {
     earliest(cells, |x| x == 0)
 }

@@ -45,6 +45,6 @@ pub fn same_turned(state: &State, goals: &State, zone: &[u8]) -> bool
     else {
         return is_vacant(goals, zone);
     };
-    let q = place_of(goals, zone, r);
+    let q = place_of(goals, zone, r).unwrap_or(zone.len());
     same_round(state, goals, zone, q)
 }

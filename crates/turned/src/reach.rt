@@ -16,7 +16,7 @@ pub fn can_leave(state: &State, zone: &[u8], r: Robot, j: usize) -> bool
     if is_full(state, zone) {
         return stands(state, zone, r, j);
     }
-    place_of(state, zone, r) < zone.len()
+    place_of(state, zone, r).is_some()
 }
 
 // Can a robot enter at place j with the named robot behind it: one that is inside, 255 if the ring is empty.
@@ -24,7 +24,7 @@ pub fn can_enter(state: &State, zone: &[u8], j: usize, behind: u8) -> bool
     ensures { result ≡ ring_can_enter (arrangement_of state.now zone.now) j behind }
 {
     let alone = behind == 255;
-    place_of(state, zone, Robot(behind)) < zone.len() || alone && is_vacant(state, zone)
+    place_of(state, zone, Robot(behind)).is_some() || alone && is_vacant(state, zone)
 }
 
 // Are the goals in the ring's configuration: the order of the robots up to turning, or if full the arrangement.

@@ -106,16 +106,6 @@ behind_stands a j h n =
     let e : cell a (wrap (length a) (j + (w.0 + 1))) ≡ suc (ring_behind a j) = sym (opened_at j a w.0 h l) ∙ w.1 in
     (seek_ok (suc (ring_behind a j)) a (wrap (length a) (j + (w.0 + 1))) (cell_inside a _ (ring_behind a j) e) e).1
 
--- the same in a zone
-pub behind_inside : (s : State) (vs : List ℕ) (j : ℕ) → j < length vs → (b : ℕ) → b ≡ ring_behind (arrangement_of s vs) j → b ≢ 255 → seek (suc b) (arrangement_of s vs) < length vs
-behind_inside s vs j h b e n =
-    omega (
-      arith,
-      ap (λ (y : ℕ). seek (suc y) (arrangement_of s vs)) e,
-      behind_stands (arrangement_of s vs) j (omega (arith, arrangement_length s vs)) (λ q. n (e ∙ q)),
-      arrangement_length s vs,
-    )
-
 -- no robot is 255
 pub no_255 : (s : State) (vs : List ℕ) (i : ℕ) → cell (arrangement_of s vs) i ≢ 256
 no_255 s vs i e = go (dec_lt i (length vs))

@@ -45,7 +45,7 @@ pub fn turn_place(state: &State, zone: &[u8], j: usize, named: Robot) -> Option<
     if b == named {
         return None;
     }
-    Some(place_of(state, zone, b))
+    place_of(state, zone, b)
 }
 
 // Does the robot pushed from place p go on alone: p is not place j, and nobody stands on the place after it.

@@ -17,8 +17,7 @@ pub fn can_leave(state: &State, zone: &[u8], r: Robot, j: usize) -> bool
     if packed {
         return stands(state, zone, r, j);
     }
-    let i = place_of(state, zone, r);
-    i < zone.len()
+    place_of(state, zone, r).is_some()
 }
 
 // Whoever stands on place j "goes to the earliest listed empty point".
@@ -30,7 +29,8 @@ pub fn make_room(state: &mut State, count: usize, zone: &[u8], j: usize, out: &m
         return count;
     }
     let v = vertex_at(zone, j);
-    let w = vertex_at(zone, first_free(state, zone));
+    let free = first_free(state, zone).unwrap_or(zone.len());
+    let w = vertex_at(zone, free);
     state.make(count, x, v, w, out)
 }
 
@@ -49,7 +49,8 @@ pub fn leave(
     if here {
         return count;
     }
-    let v = vertex_at(zone, place_of(state, zone, r));
+    let i = place_of(state, zone, r).unwrap_or(zone.len());
+    let v = vertex_at(zone, i);
     let w = vertex_at(zone, j);
     let next = make_room(state, count, zone, j, out);
     state.make(next, r, v, w, out)

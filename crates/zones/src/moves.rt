@@ -1,5 +1,5 @@
 // The moves in a zone of a kind.
-ghost use Rattle.std.specs.Prelude.{◌≡◌, true, ◌≤◌, ◌<◌, length};
+ghost use Rattle.std.specs.Prelude.{◌≡◌, true, ◌<◌, length};
 ghost use Rattle.numbering.specs.Kind.{number_of};
 ghost use Rattle.spec.specs.State.{arrangement_of, across};
 ghost use Rattle.spec.specs.ZoneKind.{can_leave, can_end};
@@ -34,6 +34,7 @@ pub fn leave(
 }
 
 // The moves that make room at place j for whoever enters there.
+// Its arms call other functions than `leave`, with other arguments: one function over both would name all six.
 pub fn enter(
     kind: ZoneKind,
     state: &mut State,
@@ -45,14 +46,13 @@ pub fn enter(
     out: &mut [u8],
 ) -> usize
     requires j_in_bounds { j < length zone.vertices.now }
-    requires list_short { length list.now ≤ 128 }
     requires numbered { Numbered list.now j }
     requires proper { Proper (arrangement_of state.old zone.vertices.now) }
     requires list_len { length list.now ≡ extra_of (number_of kind) (arrangement_of state.old zone.vertices.now) }
     ensures { world state.new result out.new ≡ made_all (world state.old count out.old) (across zone.entry.vertices.now (enter_moves (number_of kind) (arrangement_of state.old zone.entry.vertices.now) j behind list.now)) }
 {
     match kind {
-        ZoneKind::Clique => clique::enter(state, count, zone.vertices, j, list, out),
+        ZoneKind::Clique => clique::enter(state, count, zone.short(), j, list, out),
         ZoneKind::Ring => ring::enter(state, count, zone, j, behind, out),
         _ => hall::enter(state, count, zone.short(), Place { index: j }, behind, out),
     }
@@ -72,7 +72,7 @@ pub fn bring_to_goals(
     ensures { world state.new result out.new ≡ made_all (world state.old count out.old) (across zone.entry.vertices.now (end_moves (number_of kind) (arrangement_of state.old zone.entry.vertices.now) (arrangement_of goals.now zone.entry.vertices.now))) }
 {
     match kind {
-        ZoneKind::Clique => clique::bring_to_goals(state, count, zone.vertices, goals, out),
+        ZoneKind::Clique => clique::bring_to_goals(state, count, zone.short(), goals, out),
         ZoneKind::Ring => ring::end(state, count, zone, goals, out),
         _ => hall::end(state, count, zone.short(), goals, out),
     }

@@ -18,10 +18,13 @@ returns-in_default c =
     let a = c.args in
     ends_nobody a.state.now a.goals.now a.zone.vertices.now c.in_default.ensures (world a.state.now a.count a.out.now)
 
-pub push_to-pushed-requires-clause-j_in_bounds : goal.push_to-pushed-requires-clause-j_in_bounds
-push_to-pushed-requires-clause-j_in_bounds c =
+pub returns-in_default-place_of : goal.returns-in_default-place_of
+returns-in_default-place_of c =
     let a = c.args in
-    omega (arith, c.place_of-j.ensures, ends_goal a.state.now a.goals.now a.zone.vertices.now c.in-Some.r.0 c.in-Some.ensures c.requires.zone_value)
+    absurd (omega (arith, c.in_default-place_of.ensures, ends_goal a.state.now a.goals.now a.zone.vertices.now c.in-Some.r.0 c.in-Some.ensures c.requires.zone_value))
+
+pub push_to-pushed-requires-clause-j_in_bounds : goal.push_to-pushed-requires-clause-j_in_bounds
+push_to-pushed-requires-clause-j_in_bounds c = c.in-Some-place_of.ensures.0
 
 pub push_to-pushed-requires-clause-zone_in_bounds : goal.push_to-pushed-requires-clause-zone_in_bounds
 push_to-pushed-requires-clause-zone_in_bounds c = let a = c.args in ends_stands a.state.now a.goals.now a.zone.vertices.now c.in-Some.r.0 c.in-Some.ensures
@@ -39,8 +42,7 @@ pub open_at-requires : goal.open_at-requires
 open_at-requires c =
     let a = c.args in
     let z = a.zone.vertices.now in
-    let h : c.place_of-j.result < length z = omega (arith, c.place_of-j.ensures, ends_goal a.state.now a.goals.now z c.in-Some.r.0 c.in-Some.ensures c.requires.zone_value) in
-    (h, buffer_cut (length z) (omega arith) (listed_short 128 z a.zone.listed))
+    (c.in-Some-place_of.ensures.0, buffer_cut (length z) (omega arith) (listed_short 128 z a.zone.listed))
 
 pub returns : goal.returns
 returns c =
@@ -49,7 +51,6 @@ returns c =
     let z = a.zone.vertices.now in
     let L : Listed (length s.robots) z = rw c.room.ensures.1 a.zone.listed in
     let r = c.in-Some.r.0 in
-    let h : c.place_of-j.result < length z = omega (arith, c.place_of-j.ensures, ends_goal s a.goals.now z r c.in-Some.ensures c.requires.zone_value) in
     c.end.ensures
-    ∙ end_both (world s a.count a.out.now) _ a.goals.now z _ r c.place_of-j.result L c.in-Some.ensures h c.place_of-j.ensures
+    ∙ end_both (world s a.count a.out.now) _ a.goals.now z _ r c.in-Some-place_of.j L c.in-Some.ensures c.in-Some-place_of.ensures.0 c.in-Some-place_of.ensures.1
     (ends_stands s a.goals.now z r c.in-Some.ensures) c.open_at.ensures c.push_to-pushed.ensures

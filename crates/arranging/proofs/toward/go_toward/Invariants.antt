@@ -9,5 +9,5 @@ abbrev pub invariant-loop : goal.invariant-loop
 invariant-loop l = record {
   search : open_target l.cells l.goal ≡ l.from + open_target (drop l.from l.cells) (drop l.from l.goal);
   table : Tabled l.table l.cells;
-  moves : made_all (world l.state l.count l.out) (across l.zone (clique_to (l.n - l.counter) l.cells l.goal)) ≡ made_all (world l.fn.state l.fn.count l.fn.out) (across l.zone (clique_to l.n l.fn.cells l.goal));
+  moves : made_all (world l.state l.count l.out) (across l.zone (clique_to (l.most - l.counter) l.cells l.goal)) ≡ made_all (world l.fn.state l.fn.count l.fn.out) (across l.zone (clique_to l.most l.fn.cells l.goal));
 }

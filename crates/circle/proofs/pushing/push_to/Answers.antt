@@ -1,3 +1,4 @@
+use native.Mathlib.Omega.{arith}
 use mathlib.Core.Path.{ap, sym, ◌∙◌}
 use lib.ListN.{length}
 use Rattle.spec.specs.State.{arrangement_of, across}
@@ -6,6 +7,12 @@ use Rattle.motion.specs.Across.{arrangement_length}
 use Rattle.circle.specs.Pushes.{pushes_to}
 use Rattle.circle.proofs.pushing.push_to.Goals as goal
 
+pub returns-in_default : goal.returns-in_default
+returns-in_default c = absurd (omega (arith, c.in_default.ensures, c.requires.zone_in_bounds))
+
+pub push_times-requires : goal.push_times-requires
+push_times-requires c = record { p_in_bounds = c.in-Some.ensures.0 }
+
 pub returns : goal.returns
 returns c =
     let a = c.args in
@@ -13,4 +20,4 @@ returns c =
     let s = a.state.now in
     c.push_times.ensures
     ∙ ap (λ ms. made_all (world a.state.now a.count a.out.now) (across z ms))
-    (pushes_to (arrangement_of s z) a.r.0 a.j c.place_of-p.result c.distance-n.result (length z) (sym (arrangement_length s z)) c.place_of-p.ensures c.distance-n.ensures)
+    (pushes_to (arrangement_of s z) a.r.0 a.j c.in-Some.p c.distance-n.result (length z) (sym (arrangement_length s z)) c.in-Some.ensures.1 c.distance-n.ensures)

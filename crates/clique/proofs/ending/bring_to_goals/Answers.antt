@@ -12,18 +12,18 @@ use Rattle.clique.proofs.ending.bring_to_goals.Goals as goal
 pub go_toward-requires : goal.go_toward-requires
 go_toward-requires c =
     let p = c.args in
-    let z = p.zone.now in
-    let f = cells_are p.state.now z _ c.requires.zone_len_bound c.cells_of.ensures in
-    let h = cells_are p.goals.now z _ c.requires.zone_len_bound c.cells_of-2.ensures in
+    let z = p.zone.vertices.now in
+    let f = cells_are p.state.now z _ p.zone.short c.cells_of.ensures in
+    let h = cells_are p.goals.now z _ p.zone.short c.cells_of-2.ensures in
     let l = ap length f ∙ arrangement_length p.state.now z in
-    (omega (arith, l, c.requires.zone_len_bound), ap length h ∙ arrangement_length p.goals.now z ∙ sym l, distinct_of f c.requires.distinct)
+    (omega (arith, l, p.zone.short), ap length h ∙ arrangement_length p.goals.now z ∙ sym l, distinct_of f c.requires)
 
 pub returns : goal.returns
 returns c =
     let p = c.args in
-    let z = p.zone.now in
-    let f = cells_are p.state.now z _ c.requires.zone_len_bound c.cells_of.ensures in
-    let h = cells_are p.goals.now z _ c.requires.zone_len_bound c.cells_of-2.ensures in
+    let z = p.zone.vertices.now in
+    let f = cells_are p.state.now z _ p.zone.short c.cells_of.ensures in
+    let h = cells_are p.goals.now z _ p.zone.short c.cells_of-2.ensures in
     c.go_toward.ensures
     ∙ ap (λ (ms : List Move). made_all (world p.state.now p.count p.out.now) (across z ms))
     (ap₂ (clique_to (length z * 2)) f h ∙ end_is (arrangement_of p.state.now z) (arrangement_of p.goals.now z) (length z) (sym (arrangement_length p.state.now z)))

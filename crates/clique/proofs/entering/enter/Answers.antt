@@ -13,23 +13,23 @@ pub fill-requires : goal.fill-requires
 fill-requires c =
     let p = c.args in
     let s = p.state.now in
-    let f = extra_fill (arrangement_of s p.zone.now) (length p.list.now) c.requires.zone_len_bound.1 (search (rules, tests)) in
-    record { zone_len_bound = (c.requires.zone_len_bound.0, f.1 ∙ arrangement_length s p.zone.now, c.requires.zone_len_bound.2); distinct = c.requires.distinct }
+    let f = extra_fill (arrangement_of s p.zone.vertices.now) (length p.list.now) c.requires.list_len (search (rules, tests)) in
+    record { list_len = f.1 ∙ arrangement_length s p.zone.vertices.now; numbered = c.requires.numbered; distinct = c.requires.distinct }
 
 pub returns : goal.returns
 returns c =
     let p = c.args in
-    let z = p.zone.now in
+    let z = p.zone.vertices.now in
     let s = p.state.now in
     c.fill.ensures
     ∙ ap (λ (ms : List Move). made_all (world p.state.now p.count p.out.now) (across z ms))
-    (enter_fill (arrangement_of s z) 0 p.j 0 p.list.now (length z) (extra_fill (arrangement_of s z) (length p.list.now) c.requires.zone_len_bound.1 (search (rules, tests))).0 (sym (arrangement_length s z)))
+    (enter_fill (arrangement_of s z) 0 p.j 0 p.list.now (length z) (extra_fill (arrangement_of s z) (length p.list.now) c.requires.list_len (search (rules, tests))).0 (sym (arrangement_length s z)))
 
 pub returns-then-is_empty : goal.returns-then-is_empty
 returns-then-is_empty c =
     let p = c.args in
-    let z = p.zone.now in
+    let z = p.zone.vertices.now in
     let s = p.state.now in
     c.make_room.ensures
     ∙ ap (λ (ms : List Move). made_all (world p.state.now p.count p.out.now) (across z ms))
-    (enter_room (arrangement_of s z) 0 p.j 0 p.list.now (extra_room (arrangement_of s z) (length p.list.now) c.requires.zone_len_bound.1 (search (rules, tests))))
+    (enter_room (arrangement_of s z) 0 p.j 0 p.list.now (extra_room (arrangement_of s z) (length p.list.now) c.requires.list_len (search (rules, tests))))

@@ -11,25 +11,24 @@ use Rattle.clique.proofs.entering.fill.Goals as goal
 pub go_toward-requires : goal.go_toward-requires
 go_toward-requires c =
     let p = c.args in
-    let z = p.zone.now in
-    let b = c.requires.zone_len_bound in
-    let f = cells_are p.state.now z _ b.0 c.cells_of.ensures in
+    let z = p.zone.vertices.now in
+    let f = cells_are p.state.now z _ p.zone.short c.cells_of.ensures in
     let l = ap length f ∙ arrangement_length p.state.now z in
-    (omega (arith, l, b.0), ap length c.goal_cells.ensures ∙ cells_named p.list.now p.j ∙ b.1 ∙ sym l, distinct_of f c.requires.distinct)
+    (omega (arith, l, p.zone.short), ap length c.goal_cells.ensures ∙ cells_named p.list.now p.j ∙ c.requires.list_len ∙ sym l, distinct_of f c.requires.distinct)
 
 pub returns-then-moves : goal.returns-then-moves
 returns-then-moves c =
     let p = c.args in
-    let z = p.zone.now in
-    let f = cells_are p.state.now z _ c.requires.zone_len_bound.0 c.cells_of.ensures in
-    let h = c.goal_cells.ensures ∙ named_cells p.list.now p.j c.requires.zone_len_bound.2 in
+    let z = p.zone.vertices.now in
+    let f = cells_are p.state.now z _ p.zone.short c.cells_of.ensures in
+    let h = c.goal_cells.ensures ∙ named_cells p.list.now p.j c.requires.numbered in
     c.go_toward.ensures ∙ ap (λ (ms : List Move). made_all (world p.state.now p.count p.out.now) (across z ms)) (ap₂ (clique_to (length z * 2)) f h)
 
 pub returns : goal.returns
 returns c =
     let p = c.args in
-    let z = p.zone.now in
-    let f = cells_are p.state.now z _ c.requires.zone_len_bound.0 c.cells_of.ensures in
-    let h = c.goal_cells.ensures ∙ named_cells p.list.now p.j c.requires.zone_len_bound.2 in
+    let z = p.zone.vertices.now in
+    let f = cells_are p.state.now z _ p.zone.short c.cells_of.ensures in
+    let h = c.goal_cells.ensures ∙ named_cells p.list.now p.j c.requires.numbered in
     let q : c.same_cells-moves.result ≡ true = search rules in
     filled_still (length z * 2) _ _ _ _ z (world p.state.now p.count p.out.now) _ f h q c.same_cells-moves.ensures

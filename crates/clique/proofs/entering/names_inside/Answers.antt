@@ -8,10 +8,10 @@ pub returns-then-named : goal.returns-then-named
 returns-then-named c =
     let p = c.args in
     c.same_robots.ensures
-    ∙ ap₂ same_robots (cells_are p.state.now p.zone.now _ c.requires.0 c.cells_of.ensures) (c.goal_cells.ensures ∙ named_cells p.list.now p.j (c.names_robots-named.ensures.0 c.if-named.true))
+    ∙ ap₂ same_robots (cells_are p.state.now p.zone.vertices.now _ p.zone.short c.cells_of.ensures) (c.goal_cells.ensures ∙ named_cells p.list.names.now p.j (c.names_robots-named.ensures.0 c.if-named.true))
 
 pub returns : goal.returns
 returns c =
     let p = c.args in
     let w = c.names_robots-named.ensures.1 c.if-named.false in
-    sym (false_of (named_nobody p.state.now p.zone.now p.list.now p.j w.0 w.1 w.2))
+    sym (false_of (named_nobody p.state.now p.zone.vertices.now p.list.names.now p.j w.0 w.1 w.2))

@@ -1,5 +1,6 @@
-use mathlib.Core.Path.{ap₂, sym, ◌∙◌}
-use lib.Dec.{ltb}
+use Rattle.std.proofs.Common.{suc, length, ltb, ap, sym, ◌∙◌}
+use Rattle.spec.specs.Arrangement.{seek}
+use Rattle.cells.specs.Cells.{found_inside}
 use Rattle.spec.specs.State.{arrangement_of}
 use Rattle.motion.specs.Across.{arrangement_length}
 use Rattle.circle.specs.Reading.{leave_full, leave_open}
@@ -13,5 +14,6 @@ returns-then-is_full c =
 pub returns : goal.returns
 returns c =
     let a = c.args in
-    ap₂ ltb c.place_of.ensures (sym (arrangement_length a.state.now a.zone.now))
+    c.is_some.ensures ∙ found_inside (length a.zone.now) (seek (suc a.r.0) (arrangement_of a.state.now a.zone.now)) c.place_of.result c.place_of.ensures
+    ∙ ap (ltb (seek (suc a.r.0) (arrangement_of a.state.now a.zone.now))) (sym (arrangement_length a.state.now a.zone.now))
     ∙ leave_open (arrangement_of a.state.now a.zone.now) a.r.0 a.j (sym c.is_full.ensures ∙ c.if-is_full.false)

@@ -1,8 +1,7 @@
 use borrow.Author.Rules.{rules}
-use native.Mathlib.Omega.{arith}
-use Rattle.std.proofs.Common.{tests}
-use mathlib.Core.Path.{sym, ◌∙◌}
-use Rattle.turns.specs.Turns.{begins_taken, begins_nowhere, begins_behind, begins_never, behind_inside}
+use Rattle.std.proofs.Common.{ℕ, length, subst, sym, tests}
+use Rattle.cells.specs.Cells.{PlaceFound}
+use Rattle.turns.specs.Turns.{begins_taken, begins_nowhere, begins_behind, begins_never}
 use Rattle.turns.proofs.turning.turn_place.Goals as goal
 
 pub returns-then-ne : goal.returns-then-ne
@@ -23,8 +22,8 @@ returns-then-eq c =
 pub returns : goal.returns
 returns c =
     let a = c.args in
-    let f = c.in-Some.ensures in (
-      omega (arith, c.place_of.ensures, behind_inside a.state.now a.zone.now a.j (search rules) c.in-Some.b.0 f.0 f.1),
-      c.place_of.ensures
-          ∙ begins_behind a.state.now a.zone.now a.j a.named.0 c.robot_at.result.0 c.in-Some.b.0 c.robot_at.ensures (search (rules, tests)) f.0 (search (rules, tests)),
-    )
+    let z = a.zone.now in
+    let f = c.in-Some.ensures in
+    subst (λ (i : ℕ). PlaceFound (length z) i c.place_of.result)
+    (begins_behind a.state.now z a.j a.named.0 c.robot_at.result.0 c.in-Some.b.0 c.robot_at.ensures (search (rules, tests)) f.0 (search (rules, tests)))
+    c.place_of.ensures

@@ -1,8 +1,9 @@
-use lib.Dec.{ltb}
-use Prim.Native.Nat.{ℕ}
-use mathlib.Core.Path.{ap, sym, ◌∙◌}
+use Prim.Native.Nat.{suc}
+use mathlib.Core.Path.{sym, ◌∙◌}
 use lib.ListN.{length}
+use Rattle.spec.specs.Arrangement.{seek}
 use Rattle.spec.specs.State.{arrangement_of}
+use Rattle.cells.specs.Cells.{found_inside}
 use Rattle.motion.specs.Across.{arrangement_length}
 use Rattle.vacating.specs.Leaving.{can_leave_full, can_leave_other}
 use Rattle.vacating.proofs.leaving.can_leave.Goals as goal
@@ -13,5 +14,5 @@ returns-then-packed c = c.stands.ensures ∙ can_leave_full (arrangement_of c.ar
 pub returns : goal.returns
 returns c =
     let a = arrangement_of c.args.state.now c.args.zone.now in
-    ap (λ (i : ℕ). ltb i (length c.args.zone.now)) c.place_of-i.ensures
+    c.is_some.ensures ∙ found_inside (length c.args.zone.now) (seek (suc c.args.r.0) a) c.place_of.result c.place_of.ensures
     ∙ can_leave_other a c.args.r.0 c.args.j (length c.args.zone.now) (sym c.if-packed.false ∙ c.is_full-packed.ensures) (sym (arrangement_length c.args.state.now c.args.zone.now))

@@ -1,6 +1,5 @@
 use Rattle.numbering.specs.Kind.{number_of, not_clique, not_ring}
 use Rattle.walking.specs.Kinds.{clique_end_lem, ring_end_lem, hall_end_lem, ring_can_end_lem}
-use Rattle.motion.specs.Coupling.{listed_short}
 use Rattle.motion.specs.World.{world, made_all}
 use Rattle.spec.specs.State.{across, arrangement_of}
 use Rattle.spec.specs.Arrangement.{Move}
@@ -9,7 +8,7 @@ use mathlib.Core.Path.{ap, ◌∙◌}
 use Rattle.zones.proofs.moves.bring_to_goals.Goals as goal
 
 pub bring_to_goals-requires : goal.bring_to_goals-requires
-bring_to_goals-requires c = record { zone_len_bound = listed_short 128 c.args.zone.vertices.now c.args.zone.listed; distinct = c.requires.proper.once }
+bring_to_goals-requires c = rw c.short.ensures c.requires.proper.once
 
 pub end-requires : goal.end-requires
 end-requires c = record { zone_value = ring_can_end_lem _ (ap number_of c.in-Ring.is) _ _ ∙ c.requires.zone_value }
@@ -18,7 +17,7 @@ pub returns-in-Clique : goal.returns-in-Clique
 returns-in-Clique c =
     let a = c.args in
     let z = a.zone.vertices.now in
-    c.bring_to_goals.ensures ∙ ap (λ (ms : List Move). made_all (world a.state.now a.count a.out.now) (across z ms)) (clique_end_lem _ (ap number_of c.in-Clique.is) (arrangement_of a.state.now z) (arrangement_of a.goals.now z))
+    (rw c.short.ensures at c.bring_to_goals.ensures) ∙ ap (λ (ms : List Move). made_all (world a.state.now a.count a.out.now) (across z ms)) (clique_end_lem _ (ap number_of c.in-Clique.is) (arrangement_of a.state.now z) (arrangement_of a.goals.now z))
 
 pub returns-in-Ring : goal.returns-in-Ring
 returns-in-Ring c =
@@ -30,4 +29,4 @@ pub returns-in_default : goal.returns-in_default
 returns-in_default c =
     let a = c.args in
     let z = a.zone.vertices.now in
-    (rw c.short.ensures at c.end-in_default.ensures) ∙ ap (λ (ms : List Move). made_all (world a.state.now a.count a.out.now) (across z ms)) (hall_end_lem _ (not_clique _ c.in_default.not-Clique) (not_ring _ c.in_default.not-Ring) (arrangement_of a.state.now z) (arrangement_of a.goals.now z))
+    (rw c.short-in_default.ensures at c.end-in_default.ensures) ∙ ap (λ (ms : List Move). made_all (world a.state.now a.count a.out.now) (across z ms)) (hall_end_lem _ (not_clique _ c.in_default.not-Clique) (not_ring _ c.in_default.not-Ring) (arrangement_of a.state.now z) (arrangement_of a.goals.now z))

@@ -1,15 +1,12 @@
 use Rattle.numbering.specs.Kind.{number_of, not_clique, not_ring}
 use mathlib.Core.Path.{ap, ◌∙◌}
 use mathlib.Core.List.{List}
-use Prim.Native.Nat.{ℕ, ◌≤◌}
-use lib.ListN.{length}
+use Prim.Native.Nat.{ℕ}
 use Rattle.theory.specs.Zones.Crossing.{extra_of}
 use Rattle.spec.specs.Arrangement.{Move}
 use Rattle.spec.specs.State.{across, arrangement_of}
-use Rattle.motion.specs.Coupling.{listed_short}
 use Rattle.motion.specs.World.{world, made_all}
 use Rattle.walking.specs.Kinds.{clique_enter_lem, ring_enter_lem, hall_enter_lem}
-use borrow.Author.Rules.{rules}
 use Rattle.zones.proofs.moves.enter.Goals as goal
 
 pub enter-requires : goal.enter-requires
@@ -17,15 +14,13 @@ enter-requires c =
     let p = c.args in
     let f = c.requires in
     let e = f.list_len ∙ ap (λ (k : ℕ). extra_of k (arrangement_of p.state.now p.zone.vertices.now)) (ap number_of c.in-Clique.is) in
-    let d = f.proper.once in
-    let h : length p.zone.vertices.now ≤ 128 = listed_short 128 p.zone.vertices.now p.zone.listed in
-    search rules
+    rw c.short.ensures (record { list_len = e; numbered = f.numbered; distinct = f.proper.once })
 
 pub returns-in-Clique : goal.returns-in-Clique
 returns-in-Clique c =
     let a = c.args in
     let z = a.zone.vertices.now in
-    c.enter.ensures ∙ ap (λ (ms : List Move). made_all (world a.state.now a.count a.out.now) (across z ms)) (clique_enter_lem _ (ap number_of c.in-Clique.is) (arrangement_of a.state.now z) a.j a.behind a.list.now)
+    (rw c.short.ensures at c.enter.ensures) ∙ ap (λ (ms : List Move). made_all (world a.state.now a.count a.out.now) (across z ms)) (clique_enter_lem _ (ap number_of c.in-Clique.is) (arrangement_of a.state.now z) a.j a.behind a.list.now)
 
 pub returns-in-Ring : goal.returns-in-Ring
 returns-in-Ring c =
@@ -37,4 +32,4 @@ pub returns-in_default : goal.returns-in_default
 returns-in_default c =
     let a = c.args in
     let z = a.zone.vertices.now in
-    (rw c.short.ensures at c.enter-in_default.ensures) ∙ ap (λ (ms : List Move). made_all (world a.state.now a.count a.out.now) (across z ms)) (hall_enter_lem _ (not_clique _ c.in_default.not-Clique) (not_ring _ c.in_default.not-Ring) (arrangement_of a.state.now z) a.j a.behind a.list.now)
+    (rw c.short-in_default.ensures at c.enter-in_default.ensures) ∙ ap (λ (ms : List Move). made_all (world a.state.now a.count a.out.now) (across z ms)) (hall_enter_lem _ (not_clique _ c.in_default.not-Clique) (not_ring _ c.in_default.not-Ring) (arrangement_of a.state.now z) a.j a.behind a.list.now)
