@@ -15,7 +15,7 @@ ghost use Rattle.walking.specs.Given.{Given};
 ghost use Rattle.walking.specs.OnMap.{ZoneOn, BringingOn};
 
 use layout::MapTables;
-use motion::State;
+use motion::{ListedVertices, State};
 use numbering::Zone;
 
 // The moves that bring zone z to its goals, which can be reached.
@@ -29,12 +29,13 @@ fn end_zone(
 ) -> usize
     requires has_zone { ZoneOn map.now z.0 }
     requires z_value { can_end (get_or map.now.kind z.0 0) (arrangement_of state.old (part_of map.now z.0)) (arrangement_of goals.now (part_of map.now z.0)) ≡ true }
-    requires robots_len { length state.old.robots ≡ 128 }
     requires proper { Proper (arrangement_of state.old (part_of map.now z.0)) }
     ensures { world state.new result out.new ≡ made_all (world state.old count out.old) (across (part_of map.now z.0) (end_moves (get_or map.now.kind z.0 0) (arrangement_of state.old (part_of map.now z.0)) (arrangement_of goals.now (part_of map.now z.0)))) }
 {
     let kind = map.kind_of(z);
-    let zone = map.vertices_of(z);
+    let zone = ListedVertices {
+        vertices: map.vertices_of(z),
+    };
     zones::bring_to_goals(kind, state, count, zone, goals, out)
 }
 

@@ -5,7 +5,6 @@ ghost use Rattle.spec.specs.ZoneKind.{behind_of, can_leave};
 ghost use Rattle.theory.specs.Zones.Crossing.{Proper, extra_of};
 ghost use Rattle.numbering.specs.Kind.{number_of};
 ghost use Rattle.motion.specs.World.{world, made_all};
-ghost use Rattle.motion.specs.Coupling.{Listed};
 ghost use Rattle.clique.specs.Entering.{Numbered};
 ghost use Rattle.zones.specs.Near.{near_place};
 ghost use Rattle.walking.specs.Kinds.{leave_moves, enter_moves};
@@ -14,7 +13,7 @@ ghost use Rattle.walking.specs.OnMap.{VertexOn, kind_on, vertices_on, place_on};
 
 use cells::{robot_at, vertex_at};
 use layout::MapTables;
-use motion::State;
+use motion::{ListedVertices, State};
 use numbering::{Robot, Vertex, ZoneKind};
 use walking::copy_list;
 
@@ -38,25 +37,24 @@ fn leave_in(
     state: &mut State,
     count: usize,
     kind: ZoneKind,
-    zone: &[u8],
+    zone: ListedVertices,
     r: Robot,
     j: usize,
     u: Vertex,
     out: &mut [u8],
 ) -> usize
-    requires zone_len_bound { (length zone.now ≤ 128) × (j < length zone.now) × (get_or zone.now j 0 ≡ u.0) }
-    requires listed { Listed (length state.old.robots) zone.now }
-    requires j_value { can_leave (number_of kind) (arrangement_of state.old zone.now) r.0 j ≡ true }
-    requires proper { Proper (arrangement_of state.old zone.now) }
-    ensures { world state.new result out.new ≡ made_all (world state.old count out.old) (across zone.now (leave_moves (number_of kind) (arrangement_of state.old zone.now) r.0 j)) }
+    requires zone_len_bound { (j < length zone.vertices.now) × (get_or zone.vertices.now j 0 ≡ u.0) }
+    requires j_value { can_leave (number_of kind) (arrangement_of state.old zone.vertices.now) r.0 j ≡ true }
+    requires proper { Proper (arrangement_of state.old zone.vertices.now) }
+    ensures { world state.new result out.new ≡ made_all (world state.old count out.old) (across zone.entry.vertices.now (leave_moves (number_of kind) (arrangement_of state.old zone.entry.vertices.now) r.0 j)) }
 {
     let there = state.robot_on(u).0;
     let vacant = there == 255;
     if vacant {
-        let i = near_place(kind, zone.len(), j);
-        let x = robot_at(state, zone, i);
+        let i = near_place(kind, zone.vertices.len(), j);
+        let x = robot_at(state, zone.vertices, i);
         if x.0 == r.0 {
-            let w = vertex_at(zone, i);
+            let w = vertex_at(zone.vertices, i);
             return state.make(count, r, w, u, out);
         }
     }
@@ -74,7 +72,6 @@ pub fn leave_at(
 ) -> usize
     requires has_vertex { VertexOn map.now u.0 }
     requires u_value { can_leave (kind_on map.now u.0) (arrangement_of state.old (vertices_on map.now u.0)) r.0 (place_on map.now u.0) ≡ true }
-    requires robots_len { length state.old.robots ≡ 128 }
     requires proper { Proper (arrangement_of state.old (vertices_on map.now u.0)) }
     ensures { world state.new result out.new ≡ made_all (world state.old count out.old) (across (vertices_on map.now u.0) (leave_moves (kind_on map.now u.0) (arrangement_of state.old (vertices_on map.now u.0)) r.0 (place_on map.now u.0))) }
 {
@@ -84,7 +81,9 @@ pub fn leave_at(
         return count;
     }
     let z = map.zone_of(u);
-    let zone = map.vertices_of(z);
+    let zone = ListedVertices {
+        vertices: map.vertices_of(z),
+    };
     leave_in(
         state,
         count,
@@ -116,22 +115,30 @@ fn enter_room(
     state: &mut State,
     count: usize,
     kind: ZoneKind,
-    zone: &[u8],
+    zone: ListedVertices,
     j: usize,
     behind: u8,
     v: Vertex,
     out: &mut [u8],
 ) -> usize
-    requires zone_len_bound { (length zone.now ≤ 128) × (j < length zone.now) × (get_or zone.now j 0 ≡ v.0) }
-    requires listed { Listed (length state.old.robots) zone.now }
-    requires proper { Proper (arrangement_of state.old zone.now) }
-    requires zone_value { extra_of (number_of kind) (arrangement_of state.old zone.now) ≡ 0 }
-    ensures { world state.new result out.new ≡ made_all (world state.old count out.old) (across zone.now (enter_moves (number_of kind) (arrangement_of state.old zone.now) j behind [])) }
+    requires zone_len_bound { (j < length zone.vertices.now) × (get_or zone.vertices.now j 0 ≡ v.0) }
+    requires proper { Proper (arrangement_of state.old zone.vertices.now) }
+    requires zone_value { extra_of (number_of kind) (arrangement_of state.old zone.vertices.now) ≡ 0 }
+    ensures { world state.new result out.new ≡ made_all (world state.old count out.old) (across zone.entry.vertices.now (enter_moves (number_of kind) (arrangement_of state.old zone.entry.vertices.now) j behind [])) }
 {
-    if is_ready(kind, state, zone, j, behind, v) {
+    if is_ready(kind, state, zone.vertices, j, behind, v) {
         return count;
     }
-    zones::enter(kind, state, count, zone, j, behind, &zone[..0], out)
+    zones::enter(
+        kind,
+        state,
+        count,
+        zone,
+        j,
+        behind,
+        &zone.vertices[..0],
+        out,
+    )
 }
 
 // The moves that make room at place j, with the follow list that is copied into the lent bytes.
@@ -141,18 +148,17 @@ fn enter_in(
     file: &[u8],
     from: usize,
     kind: ZoneKind,
-    zone: &[u8],
+    zone: ListedVertices,
     j: usize,
     behind: u8,
     list: &mut [u8],
     out: &mut [u8],
 ) -> usize
-    requires zone_len_bound { (length zone.now ≤ 128) × (j < length zone.now) × (length list.old ≤ 128) × (from + length list.old ≤ length file.now / 512 * 504) }
-    requires listed { Listed (length state.old.robots) zone.now }
+    requires zone_len_bound { (j < length zone.vertices.now) × (length list.old ≤ 128) × (from + length list.old ≤ length file.now / 512 * 504) }
     requires numbered { Numbered (held_part file.now (from + length list.old) from (length list.old)) j }
-    requires proper { Proper (arrangement_of state.old zone.now) }
-    requires list_len { length list.old ≡ extra_of (number_of kind) (arrangement_of state.old zone.now) }
-    ensures { world state.new result out.new ≡ made_all (world state.old count out.old) (across zone.now (enter_moves (number_of kind) (arrangement_of state.old zone.now) j behind (held_part file.now (from + length list.old) from (length list.old)))) }
+    requires proper { Proper (arrangement_of state.old zone.vertices.now) }
+    requires list_len { length list.old ≡ extra_of (number_of kind) (arrangement_of state.old zone.vertices.now) }
+    ensures { world state.new result out.new ≡ made_all (world state.old count out.old) (across zone.entry.vertices.now (enter_moves (number_of kind) (arrangement_of state.old zone.entry.vertices.now) j behind (held_part file.now (from + length list.old) from (length list.old)))) }
 {
     copy_list(file, from, list);
     zones::enter(kind, state, count, zone, j, behind, list, out)
@@ -173,14 +179,15 @@ pub fn enter_at(
     requires n_bound { (n ≤ 128) × (from + n ≤ length file.now / 512 * 504) }
     requires has_vertex { VertexOn map.now v.0 }
     requires numbered { Numbered (held_part file.now (from + n) from n) (place_on map.now v.0) }
-    requires robots_len { length state.old.robots ≡ 128 }
     requires proper { Proper (arrangement_of state.old (vertices_on map.now v.0)) }
     requires n_value { n ≡ extra_of (kind_on map.now v.0) (arrangement_of state.old (vertices_on map.now v.0)) }
     ensures { world state.new result out.new ≡ made_all (world state.old count out.old) (across (vertices_on map.now v.0) (enter_moves (kind_on map.now v.0) (arrangement_of state.old (vertices_on map.now v.0)) (place_on map.now v.0) behind (held_part file.now (from + n) from n))) }
 {
     let z = map.zone_of(v);
     let kind = map.kind_of(z);
-    let zone = map.vertices_of(z);
+    let zone = ListedVertices {
+        vertices: map.vertices_of(z),
+    };
     let j = map.place_of(v);
     if n == 0 {
         return enter_room(state, count, kind, zone, j, behind, v, out);

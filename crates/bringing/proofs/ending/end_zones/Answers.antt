@@ -23,7 +23,6 @@ end_zone-made-requires c =
       has_zone = has_zone b.map b.n b.k a.map.now.kind a.map.now.first a.map.now.size a.map.now.listed b.zone b.place b.rows b.given l.z t;
       z_value = ends_is b.map b.n b.k a.map.now.kind a.map.now.first a.map.now.size a.map.now.listed b.zone b.place b.rows b.given l.z t l.state a.goals.now
           ∙ ending_can b.map b.given.accepted b.k b.given.few a.state.now a.goals.now b.consistent c.requires.pass (world a.state.now a.count a.out.now) l.z (world l.state l.made l.out) g t;
-      robots_len = g.consistent.rooms;
       proper = rw (← b.given.tables.vertices l.z t) (proper b.map b.given.accepted b.k b.given.few l.state g.consistent l.z t);
     }
 

@@ -13,12 +13,12 @@ unfolding arrangement_of
 returns-then-is_ready c =
     let a = c.args in
     let q = c.is_ready.ensures c.if-is_ready.true in
-    entered_ready (number_of a.kind) a.state.now a.zone.now c.requires.proper a.j c.requires.zone_len_bound.1 a.v.0 a.behind [] (world a.state.now a.count a.out.now) c.requires.zone_len_bound.2 c.requires.zone_value q.0 q.1
+    entered_ready (number_of a.kind) a.state.now a.zone.vertices.now c.requires.proper a.j c.requires.zone_len_bound.0 a.v.0 a.behind [] (world a.state.now a.count a.out.now) c.requires.zone_len_bound.1 c.requires.zone_value q.0 q.1
 
 pub enter-requires : goal.enter-requires
 unfolding arrangement_of
 enter-requires c =
-    record { zone_len_bound = (c.requires.zone_len_bound.0, c.requires.zone_len_bound.1, search rules); listed = c.requires.listed; numbered = numbered_none _; proper = c.requires.proper; list_len = sym c.requires.zone_value }
+    record { j_in_bounds = c.requires.zone_len_bound.0; list_short = search rules; numbered = numbered_none _; proper = c.requires.proper; list_len = sym c.requires.zone_value }
 
 pub returns : goal.returns
 unfolding arrangement_of

@@ -11,12 +11,12 @@ unfolding arrangement_of
 returns-then-x-r c =
     let a = c.args in
     let q : c.robot_on-there.result.0 ≡ 255 = search rules in
-    left_near (number_of a.kind) a.state.now a.zone.now c.requires.proper a.j c.requires.zone_len_bound.1 a.r.0 a.u.0 _ _ _ (world a.state.now a.count a.out.now) _ c.requires.zone_len_bound.2 c.requires.j_value (sym q ∙ c.robot_on-there.ensures) c.near_place-i.ensures c.robot_at-x.ensures c.if-x-r.true c.vertex_at-w.ensures c.make.ensures
+    left_near (number_of a.kind) a.state.now a.zone.vertices.now c.requires.proper a.j c.requires.zone_len_bound.0 a.r.0 a.u.0 _ _ _ (world a.state.now a.count a.out.now) _ c.requires.zone_len_bound.1 c.requires.j_value (sym q ∙ c.robot_on-there.ensures) c.near_place-i.ensures c.robot_at-x.ensures c.if-x-r.true c.vertex_at-w.ensures c.make.ensures
 
 pub leave-requires : goal.leave-requires
 unfolding arrangement_of
 leave-requires c =
-    record { zone_len_bound = (c.requires.zone_len_bound.0, c.requires.zone_len_bound.1); listed = c.requires.listed; j_value = c.requires.j_value }
+    record { j_in_bounds = c.requires.zone_len_bound.0; j_value = c.requires.j_value }
 
 pub returns : goal.returns
 unfolding arrangement_of
