@@ -34,7 +34,7 @@ fn end_zone(
 {
     let kind = map.kind_of(z);
     let zone = ListedVertices {
-        vertices: map.vertices_of(z),
+        vertices: map.vertices_of(z).vertices,
     };
     zones::bring_to_goals(kind, state, count, zone, goals, out)
 }

@@ -48,12 +48,13 @@ fn leave_in(
     requires proper { Proper (arrangement_of state.old zone.vertices.now) }
     ensures { world state.new result out.new ≡ made_all (world state.old count out.old) (across zone.entry.vertices.now (leave_moves (number_of kind) (arrangement_of state.old zone.entry.vertices.now) r.0 j)) }
 {
-    let there = state.robot_on(u).0;
-    let vacant = there == 255;
+    let there = state.robot_on(u);
+    let vacant = there == Robot(255);
     if vacant {
         let i = near_place(kind, zone.vertices.len(), j);
         let x = robot_at(state, zone.vertices, i);
-        if x.0 == r.0 {
+        let near = x == r;
+        if near {
             let w = vertex_at(zone.vertices, i);
             return state.make(count, r, w, u, out);
         }
@@ -75,14 +76,14 @@ pub fn leave_at(
     requires proper { Proper (arrangement_of state.old (vertices_on map.now u.0)) }
     ensures { world state.new result out.new ≡ made_all (world state.old count out.old) (across (vertices_on map.now u.0) (leave_moves (kind_on map.now u.0) (arrangement_of state.old (vertices_on map.now u.0)) r.0 (place_on map.now u.0))) }
 {
-    let there = state.robot_on(u).0;
-    let here = there == r.0;
+    let there = state.robot_on(u);
+    let here = there == r;
     if here {
         return count;
     }
     let z = map.zone_of(u);
     let zone = ListedVertices {
-        vertices: map.vertices_of(z),
+        vertices: map.vertices_of(z).vertices,
     };
     leave_in(
         state,
@@ -101,8 +102,8 @@ fn is_ready(kind: ZoneKind, state: &State, zone: &[u8], j: usize, behind: u8, v:
     requires { j < length zone.now }
     ensures { result ≡ true → (255 ≡ robot_on state.now v.0) × (behind_of (number_of kind) (arrangement_of state.now zone.now) j ≡ behind) }
 {
-    let there = state.robot_on(v).0;
-    let taken = there != 255;
+    let there = state.robot_on(v);
+    let taken = there != Robot(255);
     if taken {
         return false;
     }
@@ -154,7 +155,7 @@ fn enter_in(
     list: &mut [u8],
     out: &mut [u8],
 ) -> usize
-    requires zone_len_bound { (j < length zone.vertices.now) × (length list.old ≤ 128) × (from + length list.old ≤ length file.now / 512 * 504) }
+    requires zone_len_bound { (j < length zone.vertices.now) × (from + length list.old ≤ length file.now / 512 * 504) }
     requires numbered { Numbered (held_part file.now (from + length list.old) from (length list.old)) j }
     requires proper { Proper (arrangement_of state.old zone.vertices.now) }
     requires list_len { length list.old ≡ extra_of (number_of kind) (arrangement_of state.old zone.vertices.now) }
@@ -186,7 +187,7 @@ pub fn enter_at(
     let z = map.zone_of(v);
     let kind = map.kind_of(z);
     let zone = ListedVertices {
-        vertices: map.vertices_of(z),
+        vertices: map.vertices_of(z).vertices,
     };
     let j = map.place_of(v);
     if n == 0 {

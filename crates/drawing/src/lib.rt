@@ -39,11 +39,11 @@ fn draw_move(d: Drawn, state: &State, map: &MapTables, x: Three, out: &mut [u8])
     let kind = map.kind_of(to);
     let part = map.vertices_of(to);
     let j = map.place_of(Vertex(x.third));
-    if j >= part.len() {
+    if j >= part.vertices.len() {
         return d;
     }
-    let behind = leeway::behind_of(kind, state, part, j);
-    let filled = leeway::fills(kind, state, part);
+    let behind = leeway::behind_of(kind, state, part.vertices, j);
+    let filled = leeway::fills(kind, state, part.vertices);
     let bytes = write_step(
         state, part, j, x.first, x.second, x.third, behind, filled, d.bytes, out,
     );

@@ -18,7 +18,7 @@ use exits::goals::can_end;
 use layout::MapTables;
 use lineup::line::line_up;
 use motion::State;
-use numbering::{Zone, ZoneVertices};
+use numbering::Zone;
 use rosters::lists::store;
 use testing::Lists;
 
@@ -30,10 +30,7 @@ fn fill_zone(state: &State, map: &MapTables, z: Zone, lists: &mut Lists)
     let a = map.first_of(z);
     let mut robots = [0u8; 128];
     let mut places = [0u8; 128];
-    let zone = ZoneVertices {
-        vertices: map.vertices_of(z),
-    };
-    let n = line_up(state, zone, &mut robots, &mut places);
+    let n = line_up(state, map.vertices_of(z), &mut robots, &mut places);
     store(&mut lists.cells[a..], &robots[..n]);
     lists.counts[z.0 as usize] = n as u8;
 }
@@ -62,10 +59,7 @@ fn ends_zone(map: &MapTables, z: Zone, lists: &Lists, goals: &State) -> bool
     let list = &lists.cells[map.first_of(z)..][..count];
     let mut robots = [0u8; 128];
     let mut places = [0u8; 128];
-    let zone = ZoneVertices {
-        vertices: map.vertices_of(z),
-    };
-    let n = line_up(goals, zone, &mut robots, &mut places);
+    let n = line_up(goals, map.vertices_of(z), &mut robots, &mut places);
     can_end(map.kind_of(z), list, map.size_of(z), &mut robots[..n])
 }
 

@@ -6,7 +6,7 @@ ghost use Rattle.writer.specs.Laid.{laid_all};
 ghost use Rattle.noting.specs.Follow.{seated, followed, step_from};
 
 use motion::State;
-use numbering::{Robot, Vertex};
+use numbering::{Robot, Vertex, ZoneVertices};
 
 // Who stands on place i, a vertex v, once robot r has come in at place j.
 fn robot_after(state: &State, v: Vertex, i: usize, j: usize, r: Robot) -> Robot
@@ -29,7 +29,7 @@ fn write_list(state: &State, zone: &[u8], j: usize, r: Robot, off: usize, out: &
 // Lays a step from payload offset `off` on, with the follow list where it fills a clique; gives the offset after it.
 pub fn write_step(
     state: &State,
-    zone: &[u8],
+    zone: ZoneVertices,
     j: usize,
     r: u8,
     u: u8,
@@ -39,14 +39,14 @@ pub fn write_step(
     off: usize,
     out: &mut [u8],
 ) -> usize
-    requires { (length zone.now ≤ 128) × (off < 4294967040) }
-    ensures { (result ≡ off + length (step_from state.now zone.now j r u v behind filled)) × (out.new ≡ laid_all out.old off (step_from state.now zone.now j r u v behind filled)) }
+    requires { off < 4294967040 }
+    ensures { (result ≡ off + length (step_from state.now zone.entry.vertices.now j r u v behind filled)) × (out.new ≡ laid_all out.old off (step_from state.now zone.entry.vertices.now j r u v behind filled)) }
 {
     writer::put_three(out, off, r, u, v);
     writer::put_byte(out, off + 3, behind);
     if filled {
-        write_list(state, zone, j, Robot(r), off + 4, out);
-        return off + 4 + zone.len();
+        write_list(state, zone.vertices, j, Robot(r), off + 4, out);
+        return off + 4 + zone.vertices.len();
     }
     off + 4
 }

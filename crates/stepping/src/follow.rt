@@ -27,5 +27,5 @@ pub fn list_length_at(map: &MapTables, state: &State, v: Vertex) -> usize
     let z = map.zone_of(v);
     let kind = map.kind_of(z);
     let zone = map.vertices_of(z);
-    list_length(kind, state, zone)
+    list_length(kind, state, zone.vertices)
 }

@@ -1,5 +1,7 @@
 use mathlib.Core.Path.{sym, ◌∙◌}
 use lib.Dec.{eqb→eq}
+use borrow.Author.Rules.{rules}
+use Rattle.std.proofs.Common.{tests}
 use Rattle.theory.specs.Basics.Tests.{of_true}
 use Rattle.crossing.proofs.sides.is_ready.Goals as goal
 
@@ -9,4 +11,4 @@ returns-then-taken c =
 
 pub returns : goal.returns
 returns c =
-    λ q. (sym c.if-taken.false ∙ c.robot_on-there.ensures, sym c.behind_of-nearest.ensures ∙ eqb→eq _ _ (of_true q))
+    λ q. (sym (search (rules, tests)) ∙ c.robot_on-there.ensures, sym c.behind_of-nearest.ensures ∙ eqb→eq _ _ (of_true q))

@@ -4,6 +4,7 @@ use Rattle.walking.specs.OnMap.{kind_on, vertices_on, place_on}
 use Rattle.motion.specs.World.{world}
 use Rattle.spec.specs.State.{arrangement_of}
 use borrow.Author.Rules.{rules}
+use Rattle.std.proofs.Common.{tests}
 use mathlib.Core.Path.{sym, ◌∙◌}
 use Rattle.crossing.proofs.sides.leave_at.Goals as goal
 
@@ -12,7 +13,7 @@ unfolding arrangement_of
 returns-then-here c =
     let a = c.args in
     let t = a.map.now in
-    left_ready (kind_on t a.u.0) a.state.now (vertices_on t a.u.0) c.requires.proper (place_on t a.u.0) c.requires.has_vertex.inside a.r.0 a.u.0 (world a.state.now a.count a.out.now) c.requires.has_vertex.there c.requires.u_value (sym (search rules) ∙ c.robot_on-there.ensures)
+    left_ready (kind_on t a.u.0) a.state.now (vertices_on t a.u.0) c.requires.proper (place_on t a.u.0) c.requires.has_vertex.inside a.r.0 a.u.0 (world a.state.now a.count a.out.now) c.requires.has_vertex.there c.requires.u_value (sym (search (rules, tests)) ∙ c.robot_on-there.ensures)
 
 pub vertices_of-requires : goal.vertices_of-requires
 vertices_of-requires c =
