@@ -50,7 +50,7 @@ enter_in-requires c =
     let l = looked a.map.now a.v.0 _ _ _ _ (c.zone_of-z.ensures.below c.requires.has_vertex.below) c.kind_of-kind.ensures c.place_of-j.ensures c.vertices_of.ensures in
     let x : length {A = ℕ} (take a.n (replicate 128 0)) ≡ a.n = cells_length a.n c.requires.n_bound.0 in
     record {
-      zone_len_bound = (rw (l.vertices, l.places) c.requires.has_vertex.inside, omega (arith, x, c.requires.n_bound), omega (arith, x, c.requires.n_bound));
+      zone_len_bound = (rw (l.vertices, l.places) c.requires.has_vertex.inside, omega (arith, x, c.requires.n_bound));
       numbered = rw (x, l.places) c.requires.numbered;
       proper = rw l.vertices c.requires.proper;
       list_len = x ∙ rw (l.kinds, l.vertices) c.requires.n_value;

@@ -15,13 +15,13 @@ pub enter-requires : goal.enter-requires
 unfolding arrangement_of
 enter-requires c =
     let a = c.args in
-    let e = c.copy_list.ensures (a.from + length a.list.now) c.requires.zone_len_bound.2 (le_refl _) in
-    record { j_in_bounds = c.requires.zone_len_bound.0; list_short = search rules; numbered = rw e c.requires.numbered; proper = c.requires.proper; list_len = search (rules, c.requires.list_len) }
+    let e = c.copy_list.ensures (a.from + length a.list.now) c.requires.zone_len_bound.1 (le_refl _) in
+    record { j_in_bounds = c.requires.zone_len_bound.0; numbered = rw e c.requires.numbered; proper = c.requires.proper; list_len = search (rules, c.requires.list_len) }
 
 pub returns : goal.returns
 unfolding arrangement_of
 returns c =
     let a = c.args in
-    let e = c.copy_list.ensures (a.from + length a.list.now) c.requires.zone_len_bound.2 (le_refl _) in
+    let e = c.copy_list.ensures (a.from + length a.list.now) c.requires.zone_len_bound.1 (le_refl _) in
     c.enter.ensures
     ∙ ap (λ (l : List ℕ). made_all (world a.state.now a.count a.out.now) (across a.zone.vertices.now (enter_moves (number_of a.kind) (arrangement_of a.state.now a.zone.vertices.now) a.j a.behind l))) e

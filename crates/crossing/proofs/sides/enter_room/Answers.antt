@@ -18,7 +18,7 @@ returns-then-is_ready c =
 pub enter-requires : goal.enter-requires
 unfolding arrangement_of
 enter-requires c =
-    record { j_in_bounds = c.requires.zone_len_bound.0; list_short = search rules; numbered = numbered_none _; proper = c.requires.proper; list_len = sym c.requires.zone_value }
+    record { j_in_bounds = c.requires.zone_len_bound.0; numbered = numbered_none _; proper = c.requires.proper; list_len = sym c.requires.zone_value }
 
 pub returns : goal.returns
 unfolding arrangement_of
