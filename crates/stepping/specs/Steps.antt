@@ -3,7 +3,7 @@ use Rattle.std.specs.Prelude.{◌≡◌, refl, Bool, true, false, List, [], ◌�
 use Rattle.std.proofs.Common.{sym, ap, ◌∙◌, arith, eqb→eq}
 use Rattle.spec.specs.Outcome.{ok, ◌and◌}
 use Rattle.spec.specs.Layout.{zone_of, zone_at}
-use Rattle.spec.specs.Arrangement.{Move, mv, last_free}
+use Rattle.spec.specs.Arrangement.{mv, last_free}
 use Rattle.spec.specs.State.{State, arrangement_of, across, moved_all}
 use Rattle.spec.specs.ZoneKind.{can_leave, can_enter}
 use Rattle.spec.specs.Terms.{kind_of, place_of, arrangement_in}

@@ -1,7 +1,7 @@
 use Rattle.stepping.specs.Steps.{stepping_room, stepping_from, stepping_to, stepping_leaves, stepping_proper, stepping_short, stepping_named, stepping_room_proper, stepping_extra, stepping_made}
 use Rattle.walking.specs.Given.{Stepping}
 use Rattle.motion.specs.World.{world}
-use mathlib.Core.Path.{refl, ◌∙◌}
+use mathlib.Core.Path.{refl}
 use borrow.Author.Rules.{rules}
 use Rattle.stepping.proofs.step.make_step.Goals as goal
 
