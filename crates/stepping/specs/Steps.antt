@@ -3,7 +3,7 @@ use Rattle.std.specs.Prelude.{◌≡◌, refl, Bool, true, false, List, [], ◌�
 use Rattle.std.proofs.Common.{sym, ap, ◌∙◌, arith, eqb→eq}
 use Rattle.spec.specs.Outcome.{ok, ◌and◌}
 use Rattle.spec.specs.Layout.{zone_of, zone_at}
-use Rattle.spec.specs.Arrangement.{Move, mv, last_free}
+use Rattle.spec.specs.Arrangement.{mv, last_free}
 use Rattle.spec.specs.State.{State, arrangement_of, across, moved_all}
 use Rattle.spec.specs.ZoneKind.{can_leave, can_enter}
 use Rattle.spec.specs.Terms.{kind_of, place_of, arrangement_in}
@@ -25,10 +25,6 @@ use Rattle.walking.specs.Walk.{entered_kept, step_made, Walking, walk_more, walk
 -- the follow list is as long in the same zone
 pub extra_same : (s : State) (kind k : ℕ) (vs us : List ℕ) → kind ≡ k → vs ≡ us → extra_of kind (arrangement_of s vs) ≡ extra_of k (arrangement_of s us)
 extra_same s kind k vs us e d = rw (e, d)
-
--- moves keep the length of the table of the robots
-pub made_robots : (w u : World) (ms : List Move) → u ≡ made_all w ms → length u.state.robots ≡ length w.state.robots
-made_robots w u ms e = ap (λ (x : World). length x.state.robots) e ∙ ap (λ (t : State). length t.robots) (state_is w ms) ∙ world.robots_length w.state ms
 
 -- an empty list names nobody
 numbered_empty : (list : List ℕ) (j : ℕ) → length list ≡ 0 → Numbered list j

@@ -1,7 +1,5 @@
-use Rattle.numbering.specs.Kind.{number_of}
-use Rattle.walking.specs.Kinds.{end_moves}
-use Rattle.spec.specs.State.{across, arrangement_of}
-use Rattle.motion.specs.World.{world, made_all}
+use Rattle.spec.specs.State.{arrangement_of}
+use Rattle.motion.specs.World.{world}
 use mathlib.Core.Path.{◌∙◌}
 use Rattle.bringing.specs.Zones.{end_looked}
 use Rattle.bringing.proofs.ending.end_zone.Goals as goal

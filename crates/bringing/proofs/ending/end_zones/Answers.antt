@@ -5,7 +5,6 @@ use Rattle.spec.specs.Terms.{zone_count}
 use Rattle.motion.specs.World.{world, made_all}
 use Prim.Native.Nat.{◌<◌}
 use mathlib.Core.Path.{refl, ap, ◌∙◌}
-use borrow.Author.Rules.{rules}
 use Rattle.bringing.proofs.ending.end_zones.Goals as goal
 
 pub loop-z-init : goal.loop-z-init

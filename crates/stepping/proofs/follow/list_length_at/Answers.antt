@@ -1,10 +1,6 @@
-use Rattle.numbering.specs.Kind.{number_of}
-use Rattle.theory.specs.Zones.Crossing.{extra_of}
-use Rattle.spec.specs.State.{arrangement_of}
 use Rattle.layout.specs.Lists.{part_of}
 use lib.ListN.{get_or}
 use Prim.Native.Nat.{ℕ}
-use mathlib.Core.List.{List}
 use mathlib.Core.Path.{ap, ◌∙◌}
 use Rattle.stepping.specs.Steps.{extra_same}
 use Rattle.stepping.proofs.follow.list_length_at.Goals as goal

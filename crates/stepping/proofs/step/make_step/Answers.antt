@@ -1,7 +1,7 @@
-use Rattle.stepping.specs.Steps.{stepping_room, stepping_from, stepping_to, stepping_leaves, stepping_proper, stepping_short, stepping_named, made_robots, stepping_room_proper, stepping_extra, stepping_made}
+use Rattle.stepping.specs.Steps.{stepping_room, stepping_from, stepping_to, stepping_leaves, stepping_proper, stepping_short, stepping_named, stepping_room_proper, stepping_extra, stepping_made}
 use Rattle.walking.specs.Given.{Stepping}
 use Rattle.motion.specs.World.{world}
-use mathlib.Core.Path.{refl, ◌∙◌}
+use mathlib.Core.Path.{refl}
 use borrow.Author.Rules.{rules}
 use Rattle.stepping.proofs.step.make_step.Goals as goal
 
@@ -14,13 +14,13 @@ overflow_add-from c =
 pub leave_at-left-requires : goal.leave_at-left-requires
 leave_at-left-requires c =
     let a = c.args in
-    record { has_vertex = stepping_from a.file.now a.o a.n a.map.now.kind a.map.now.first a.map.now.size a.map.now.listed a.map.now.zone a.map.now.place a.state.now c.requires.stepping a.four c.requires.four_at; u_value = stepping_leaves a.file.now a.o a.n a.map.now.kind a.map.now.first a.map.now.size a.map.now.listed a.map.now.zone a.map.now.place a.state.now c.requires.stepping a.four c.requires.four_at; robots_len = c.requires.stepping.consistent.rooms; proper = stepping_proper a.file.now a.o a.n a.map.now.kind a.map.now.first a.map.now.size a.map.now.listed a.map.now.zone a.map.now.place a.state.now c.requires.stepping a.four c.requires.four_at }
+    record { has_vertex = stepping_from a.file.now a.o a.n a.map.now.kind a.map.now.first a.map.now.size a.map.now.listed a.map.now.zone a.map.now.place a.state.now c.requires.stepping a.four c.requires.four_at; u_value = stepping_leaves a.file.now a.o a.n a.map.now.kind a.map.now.first a.map.now.size a.map.now.listed a.map.now.zone a.map.now.place a.state.now c.requires.stepping a.four c.requires.four_at; proper = stepping_proper a.file.now a.o a.n a.map.now.kind a.map.now.first a.map.now.size a.map.now.listed a.map.now.zone a.map.now.place a.state.now c.requires.stepping a.four c.requires.four_at }
 
 pub enter_at-room-requires : goal.enter_at-room-requires
 enter_at-room-requires c =
     let a = c.args in
     let w = (world a.state.now a.count a.out.now) in
-    record { n_bound = (stepping_short a.file.now a.o a.n a.map.now.kind a.map.now.first a.map.now.size a.map.now.listed a.map.now.zone a.map.now.place a.state.now c.requires.stepping a.four c.requires.four_at, stepping_room a.file.now a.o a.n a.map.now.kind a.map.now.first a.map.now.size a.map.now.listed a.map.now.zone a.map.now.place a.state.now c.requires.stepping); has_vertex = stepping_to a.file.now a.o a.n a.map.now.kind a.map.now.first a.map.now.size a.map.now.listed a.map.now.zone a.map.now.place a.state.now c.requires.stepping a.four c.requires.four_at; numbered = stepping_named a.file.now a.o a.n a.map.now.kind a.map.now.first a.map.now.size a.map.now.listed a.map.now.zone a.map.now.place a.state.now c.requires.stepping a.four c.requires.four_at; robots_len = made_robots _ _ _ c.leave_at-left.ensures ∙ c.requires.stepping.consistent.rooms; proper = stepping_room_proper a.file.now a.o a.n a.map.now.kind a.map.now.first a.map.now.size a.map.now.listed a.map.now.zone a.map.now.place a.state.now c.requires.stepping a.four c.requires.four_at w _ refl c.leave_at-left.ensures; n_value = stepping_extra a.file.now a.o a.n a.map.now.kind a.map.now.first a.map.now.size a.map.now.listed a.map.now.zone a.map.now.place a.state.now c.requires.stepping a.four c.requires.four_at w _ refl c.leave_at-left.ensures }
+    record { n_bound = (stepping_short a.file.now a.o a.n a.map.now.kind a.map.now.first a.map.now.size a.map.now.listed a.map.now.zone a.map.now.place a.state.now c.requires.stepping a.four c.requires.four_at, stepping_room a.file.now a.o a.n a.map.now.kind a.map.now.first a.map.now.size a.map.now.listed a.map.now.zone a.map.now.place a.state.now c.requires.stepping); has_vertex = stepping_to a.file.now a.o a.n a.map.now.kind a.map.now.first a.map.now.size a.map.now.listed a.map.now.zone a.map.now.place a.state.now c.requires.stepping a.four c.requires.four_at; numbered = stepping_named a.file.now a.o a.n a.map.now.kind a.map.now.first a.map.now.size a.map.now.listed a.map.now.zone a.map.now.place a.state.now c.requires.stepping a.four c.requires.four_at; proper = stepping_room_proper a.file.now a.o a.n a.map.now.kind a.map.now.first a.map.now.size a.map.now.listed a.map.now.zone a.map.now.place a.state.now c.requires.stepping a.four c.requires.four_at w _ refl c.leave_at-left.ensures; n_value = stepping_extra a.file.now a.o a.n a.map.now.kind a.map.now.first a.map.now.size a.map.now.listed a.map.now.zone a.map.now.place a.state.now c.requires.stepping a.four c.requires.four_at w _ refl c.leave_at-left.ensures }
 
 pub returns : goal.returns
 returns c =
