@@ -1,7 +1,7 @@
 use native.Mathlib.Omega.{arith}
 use Rattle.std.proofs.Common.{ℕ, take, length-take-le, replicate}
 use mathlib.Core.Path.{◌≡◌, ◌∙◌}
-use Prim.Native.Nat.{suc, ◌-◌, ◌<◌, ◌≤◌}
+use Prim.Native.Nat.{suc, ◌-◌, ◌≤◌}
 use lib.ListN.{length}
 use Rattle.motion.specs.World.{world}
 use Rattle.ring.specs.Ending.{ends_nobody, ends_stands, ends_goal, end_both}
