@@ -1,4 +1,4 @@
-use Rattle.std.proofs.Common.{◌≡◌, sym, ◌∙◌, arith}
+use Rattle.std.proofs.Common.{sym, ◌∙◌, arith}
 use Rattle.arranging.specs.Toward.{open_here, open_further, open_end}
 use Rattle.arranging.proofs.opening.open_target.Goals as goal
 
