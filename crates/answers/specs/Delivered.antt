@@ -22,6 +22,11 @@ answered (Ok n) o = record { number = 0; value = n; buffer = o }
 answered (Err TooLong) o = record { number = 61; value = 0; buffer = o }
 answered (Err NoRoom) o = record { number = 60; value = 0; buffer = o }
 
+-- the answer that they come to once the buffer of what is not delivered is made 0
+abbrev pub zeroed : Result ℕ Undelivered → List ℕ → Answer
+zeroed (Ok n) o = answered (Ok n) o
+zeroed (Err e) o = answered (Err e) (replicate (length o) 0)
+
 -- the payload of `len` bytes that stands in a buffer, zeros where the buffer ends before it
 unfoldable pub payload_in : ℕ → List ℕ → List ℕ
 payload_in len o = take len (payload o ++ replicate len 0)

@@ -46,27 +46,27 @@ module _ (l : List ℕ) (kind i fill : ℕ) (h : length l ≡ 512) (p : fill ≤
   body = body_of kind i (take fill (drop 6 l))
 
   -- head and zeros written make the body, and two zeros behind it
-  pub made : (x y g z : List ℕ) → x ≡ u16 i → y ≡ u16 fill → g ≡ kind ∷ 0 ∷ get_or x 0 0 ∷ get_or x 1 0 ∷ get_or y 0 0 ∷ get_or y 1 0 ∷ []
-      → z ≡ replicate (length (take (length (g ++ drop 6 l) - (6 + fill)) (drop (6 + fill) (g ++ drop 6 l)))) 0
-      → put_mid (6 + fill) (length (g ++ drop 6 l) - (6 + fill)) (g ++ drop 6 l) z ≡ body_of kind i (take fill (drop 6 l)) ++ (0 ∷ 0 ∷ [])
+  pub made : (n : ℕ) (x y g z : List ℕ) → n ≡ kind → x ≡ u16 i → y ≡ u16 fill → g ≡ n ∷ 0 ∷ get_or x 0 0 ∷ get_or x 1 0 ∷ get_or y 0 0 ∷ get_or y 1 0 ∷ []
+      → z ≡ replicate (length (take (512 - (6 + fill)) (drop (6 + fill) (g ++ drop 6 l)))) 0
+      → put_mid (6 + fill) (512 - (6 + fill)) (g ++ drop 6 l) z ≡ body_of kind i (take fill (drop 6 l)) ++ (0 ∷ 0 ∷ [])
   unfolding body_of u16
-  made x y g z a b e f =
+  made n x y g z q a b e f =
       let t : List ℕ = kind ∷ 0 ∷ i / 256 % 256 ∷ i % 256 ∷ fill / 256 % 256 ∷ fill % 256 ∷ [] in
-      let g_is : g ≡ t = rw (a, b) at e in
+      let g_is : g ≡ t = rw (q, a, b) at e in
       let m : length (t ++ drop 6 l) ≡ 512 = omega (arith, length-drop 6 l) in
-      let k : length (t ++ drop 6 l) - (6 + fill) ≡ 506 - fill = omega arith in
+      let k : 512 - (6 + fill) ≡ 506 - fill = omega arith in
       let r : length (drop (6 + fill) (t ++ drop 6 l)) ≡ 506 - fill = omega (arith, length-drop (6 + fill) (t ++ drop 6 l)) in
       let j : length (take (506 - fill) (drop (6 + fill) (t ++ drop 6 l))) ≡ 506 - fill = length-take-le (506 - fill) (drop (6 + fill) (t ++ drop 6 l)) (omega arith) in
       let d : drop (506 - fill) (drop (6 + fill) (t ++ drop 6 l)) ≡ [] = drop_of_length-le (drop (6 + fill) (t ++ drop 6 l)) {i = 506 - fill} (omega arith) in
       let z_is : z ≡ replicate (506 - fill) 0 = rw (g_is, k, j) at f in
-      let n : 506 - fill ≡ suc (suc (504 - fill)) = omega arith in
+      let two : 506 - fill ≡ suc (suc (504 - fill)) = omega arith in
       rw (
         z_is,
         g_is,
         k,
         d,
         append-nil {A = ℕ} (replicate (506 - fill) 0),
-        n,
+        two,
         rep_two (504 - fill),
         part_length l fill h p,
         take-append-add t (drop 6 l) fill,
@@ -75,7 +75,7 @@ module _ (l : List ℕ) (kind i fill : ℕ) (h : length l ≡ 512) (p : fill ≤
 
   module _ (m : List ℕ) (w : m ≡ body_of kind i (take fill (drop 6 l)) ++ (0 ∷ 0 ∷ [])) where
     -- they are a block's bytes
-    pub made_length : length m ≡ 512
+    made_length : length m ≡ 512
     made_length = ap length w ∙ length-append body (0 ∷ 0 ∷ []) ∙ omega (arith, body_length l kind i fill h p)
 
     -- the word where the checksum will stand is 0
@@ -88,12 +88,12 @@ module _ (l : List ℕ) (kind i fill : ℕ) (h : length l ≡ 512) (p : fill ≤
         rw w (omega (arith, u, v))
 
     -- the checksum written makes the block
-    pub sealed : (c : ℕ) (s : List ℕ) → c ≡ checksum (take 510 (drop 0 m)) → s ≡ u16 c → put_mid 510 (length m - 510) m s ≡ block_of kind i (take fill (drop 6 l))
+    pub sealed : (c : ℕ) (s : List ℕ) → c ≡ checksum (take 510 m) → s ≡ u16 c → put_mid 510 2 m s ≡ block_of kind i (take fill (drop 6 l))
     sealed c s z e =
         let t : take 510 m ≡ body = ap (take 510) w ∙ take_at body (0 ∷ 0 ∷ []) 510 (body_length l kind i fill h p) in
         let d : drop 2 (drop 510 m) ≡ [] = drop_of_length-le (drop 510 m) {i = 2} (omega (arith, length-drop 510 m, made_length)) in
         let y : c ≡ checksum body = z ∙ ap checksum t in
-        rw (made_length, e, d, append-nil (u16 c), t, y) (sym (block_is kind i (take fill (drop 6 l))))
+        rw (e, d, append-nil (u16 c), t, y) (sym (block_is kind i (take fill (drop 6 l))))
 
 -- how long a block is
 pub block_length : (kind i : ℕ) (part : List ℕ) → length part ≤ 504 → length (block_of kind i part) ≡ 512

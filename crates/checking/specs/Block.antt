@@ -1,8 +1,9 @@
--- A block at an offset of a file.
+-- A block, and where it stands in a file.
 use Rattle.std.specs.Prelude.{ℕ, zero, suc, ◌+◌, ◌-◌, ◌*◌, ◌≤◌, ◌<◌, ◌≡◌, refl, Bool, true, false, List, [], ◌∷◌, fold, get_or, take, drop, eqb, leb}
 use Rattle.std.proofs.Common.{ap, sym, ◌∙◌, drop-drop, take-take, get_or-drop, get_or-take, leb-true, eqb-true, ne_eqb, arith}
 use Rattle.std.specs.Int.Bits.{bit_or, or_zero_l, or_add_and}
 use Rattle.std.proofs.lemmas.Nat.{and_le_r}
+use Rattle.std.specs.Simd.{first_chunks}
 use Rattle.spec.specs.Outcome.{all, ◌and◌}
 use Rattle.spec.specs.Wire.{checksum, word, head_ok, filled, fill_ok}
 use Rattle.checksum.specs.Sum.{front_not}
@@ -35,56 +36,25 @@ pub or_all : (xs : List ℕ) → eqb (fold bit_or 0 xs) 0 ≡ all (λ x. eqb x 0
 unfolding ◌and◌
 or_all xs = or_all_from 0 xs
 
--- ---- a block's parts, in the file
+-- ---- a block's parts
 
--- a byte
-pub block_at_lem : (f : List ℕ) (at k : ℕ) → k < 512 → get_or (block_at f at) k 0 ≡ get_or f (at + k) 0
-block_at_lem f at k h = get_or-take 512 (drop at f) k 0 h ∙ get_or-drop at f k 0
-
--- a two-byte number
-pub block_word : (f : List ℕ) (at k : ℕ) → k + 1 < 512 → word (block_at f at) k ≡ word f (at + k)
-unfolding word
-block_word f at k h = rw (block_at_lem f at k (omega arith), block_at_lem f at (k + 1) h) (ap (λ (x : ℕ). get_or f (at + k) 0 * 256 + get_or f x 0) e)
-  where
-    e : at + (k + 1) ≡ at + k + 1
-    e = omega arith
-
--- the bytes before the checksum
-pub block_body : (f : List ℕ) (at : ℕ) → take 510 (block_at f at) ≡ take 510 (drop at f)
-block_body f at = take-take 510 512 (drop at f) (omega arith)
-
--- n bytes of payload
+-- n bytes of payload, in the file
 pub block_part : (f : List ℕ) (at n : ℕ) → n ≤ 504 → take n (drop 6 (block_at f at)) ≡ take n (drop (at + 6) f)
 block_part f at n h = rw (drop_take 6 512 (drop at f), take-take n 506 (drop 6 (drop at f)) (omega arith), drop-drop 6 at f)
 
 -- the padding after n bytes of payload
-pub block_rest : (f : List ℕ) (at n : ℕ) → n ≤ 504
-    → drop n (take 504 (drop 6 (block_at f at))) ≡ take (at + 510 - (at + 6 + n)) (drop (at + 6 + n) f)
-block_rest f at n h =
-    let e : at + (6 + n) ≡ at + 6 + n = omega arith in
-    let e2 : 504 - n ≡ at + 510 - (at + 6 + n) = omega arith in
-    rw (drop_take 6 512 (drop at f), take-take 504 506 (drop 6 (drop at f)) (omega arith), drop_take n 504 (drop 6 (drop at f)), drop-drop n 6 (drop at f), drop-drop (6 + n) at f, e, e2)
+pub padding : (b : List ℕ) (n : ℕ) → drop n (take 504 (drop 6 b)) ≡ take (510 - (6 + n)) (drop (6 + n) b)
+padding b n =
+    let e : 504 - n ≡ 510 - (6 + n) = omega arith in
+    rw (drop_take n 504 (drop 6 b), drop-drop n 6 b, e)
 
--- ---- the tests of a block, on the bytes of the file
-
--- the checksum
-pub sum_is : (f : List ℕ) (at : ℕ) → sum_ok (block_at f at) ≡ eqb (word f (at + 510)) (checksum (take 510 (drop at f)))
-sum_is f at = rw (block_word f at 510 (omega arith), block_body f at)
-
--- bytes 0-3
-pub head_is : (f : List ℕ) (at kind i : ℕ)
-    → head_ok kind i (block_at f at) ≡ (eqb (get_or f at 0) kind and eqb (get_or f (at + 1) 0) 0 and eqb (word f (at + 2)) i)
-unfolding head_ok
-head_is f at kind i =
-    let e : at + 0 ≡ at = omega arith in
-    rw (block_at_lem f at 0 (omega arith), block_at_lem f at 1 (omega arith), block_word f at 2 (omega arith), e)
-
--- fill and padding
-pub fill_is : (f : List ℕ) (at : ℕ) (last : Bool)
-    → fill_ok last (block_at f at) ≡ (filled last (word f (at + 4)) and all (λ x. eqb x 0) (drop (word f (at + 4)) (take 504 (drop 6 (block_at f at)))))
-unfolding fill_ok filled
-fill_is f at last =
-    ap (λ (n : ℕ). filled last n and all (λ x. eqb x 0) (drop n (take 504 (drop 6 (block_at f at))))) (block_word f at 4 (omega arith))
+-- block i of the first k
+pub chunk_at : (k i : ℕ) (f d : List ℕ) → i < k → get_or (first_chunks 512 k f) i d ≡ block_at f (i * 512)
+chunk_at zero i f d h = absurd (omega arith)
+chunk_at (suc k) zero f d h = refl
+chunk_at (suc k) (suc i) f d h =
+    let e : 512 + i * 512 ≡ suc i * 512 = omega arith in
+    chunk_at k i (drop 512 f) d (omega arith) ∙ ap (take 512) (drop-drop (i * 512) 512 f ∙ ap (λ (x : ℕ). drop x f) e)
 
 -- ---- what a fill that passes tells
 

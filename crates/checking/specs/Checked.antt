@@ -7,7 +7,7 @@ use borrow.Author.Tests.{eqb-true, eqb-false, eq-eqb, ne_eqb, le-leb, lt-leb}
 use native.Mathlib.Omega.{arith}
 use Rattle.spec.specs.Outcome.{Outcome, ok, refuse, ◌>>◌, check, ◌and◌}
 use Rattle.spec.specs.Wire.{word, head_ok, filled, fill_ok, payload_from, payload_of}
-use Rattle.checking.specs.Block.{block_at, sum_ok, block_word, block_part, fill_filled, filled_le, filled_some, filled_full}
+use Rattle.checking.specs.Block.{block_at, sum_ok, block_part, fill_filled, filled_le, filled_some, filled_full}
 use Rattle.wire.specs.Payload.{payload, chunk}
 use Rattle.checking.specs.declared.FileFault.{FileFault}
 use Rattle.checking.specs.declared.FileFault.TheVariants.{Length, Checksum, Head, Fill}
@@ -35,14 +35,9 @@ Held limit f (Err (Checksum i)) = i < limit
 Held limit f (Err (Head i)) = i < limit
 Held limit f (Err (Fill i)) = i < limit
 
--- ---- what callers cite where a check has come out as `s`
+-- ---- what callers cite
 
--- the definition comes out so too
-pub read_as : (base kind limit : ℕ) (f : List ℕ) (r s : Result ℕ FileFault) → checked_of base f r ≡ payload_of base kind limit f → r ≡ s
-    → payload_of base kind limit f ≡ checked_of base f s
-read_as base kind limit f r s e z = sym e ∙ ap (checked_of base f) z
-
--- and the case's facts hold
+-- where a check has come out as `s`, the case's facts hold
 pub held_as : (limit : ℕ) (f : List ℕ) (r s : Result ℕ FileFault) → Held limit f r → r ≡ s → Held limit f s
 held_as limit f r s h z = subst (λ (x : Result ℕ FileFault). Held limit f x) z h
 
@@ -139,18 +134,18 @@ pub record Going (kind limit : ℕ) (f : List ℕ) (n i len : ℕ) : Type 0 wher
   pub same : (base : ℕ) → payload_of base kind limit f ≡ payload_from base kind i (n - i) (drop (i * 512) f) (take len (payload f))
 
 -- it starts before block 0
-pub going_start : (kind limit : ℕ) (f : List ℕ) → length f % 512 ≡ 0 → 1 ≤ length f / 512 → length f / 512 ≤ limit → Going kind limit f (length f / 512) 0 0
-going_start kind limit f h g l =
+pub going_start : (kind limit : ℕ) (f : List ℕ) (n : ℕ) → length f % 512 ≡ 0 → n ≡ length f / 512 → 1 ≤ n → n ≤ limit → Going kind limit f n 0 0
+going_start kind limit f n h e g l =
     record {
       blocks = h;
-      count = refl;
+      count = e;
       some = g;
       limited = l;
       upto = omega arith;
       most = omega arith;
       behind = λ (z : 0 < 0). omega (arith, z);
       before = λ z. omega arith;
-      same = λ base. let e : length f / 512 ≡ length f / 512 - 0 = omega arith in size_fits f base kind limit h g l ∙ ap (λ (k : ℕ). payload_from base kind 0 k f []) e;
+      same = λ base. let k : length f / 512 ≡ n - 0 = omega arith in size_fits f base kind limit h (omega arith) (omega arith) ∙ ap (λ (k : ℕ). payload_from base kind 0 k f []) k;
     }
 
 module _ (kind limit : ℕ) (f : List ℕ) (n i len : ℕ) (g : Going kind limit f n i len) where
@@ -178,11 +173,11 @@ module _ (kind limit : ℕ) (f : List ℕ) (n i len : ℕ) (g : Going kind limit
   pub going_whole : n ≤ i → Whole limit f len
   going_whole h = record { blocks = g.blocks; some = g.behind (omega arith); most = omega arith; limited = omega arith }
 
-  module _ (h : i < n) (w : ℕ) (is : w ≡ word f (i * 512 + 4)) (s : sum_ok (block_at f (i * 512)) ≡ true)
+  module _ (h : i < n) (w : ℕ) (is : w ≡ word (block_at f (i * 512)) 4) (s : sum_ok (block_at f (i * 512)) ≡ true)
       (t : head_ok kind i (block_at f (i * 512)) ≡ true) (u : fill_ok (eqb (i + 1) n) (block_at f (i * 512)) ≡ true) where
     -- the fill of a good block is allowed
     allowed : filled (eqb (i + 1) n) w ≡ true
-    allowed = rw is (rw (block_word f (i * 512) 4 (omega arith)) at (fill_filled (eqb (i + 1) n) (block_at f (i * 512)) u))
+    allowed = rw is (fill_filled (eqb (i + 1) n) (block_at f (i * 512)) u)
 
     -- so at most 504
     pub good_le : w ≤ 504
@@ -198,7 +193,7 @@ module _ (kind limit : ℕ) (f : List ℕ) (n i len : ℕ) (g : Going kind limit
     next base =
         let a : i * 512 + 512 ≡ (i + 1) * 512 = omega arith in
         passed_block base kind i n (drop (i * 512) f) (take len (payload f)) h s t (rw (last_block i n h) at u)
-        ∙ rw (g.before h, block_word f (i * 512) 4 (omega arith), ← is, grown f i w (omega arith) good_le, drop-drop 512 (i * 512) f, a)
+        ∙ rw (g.before h, ← is, grown f i w (omega arith) good_le, drop-drop 512 (i * 512) f, a)
 
     -- a good block brings it to the next
     pub going_more : Going kind limit f n (i + 1) (len + w)

@@ -1,6 +1,6 @@
 -- The Internet checksum by a plain sum that is folded once at the end (RFC 1071, 2 (A) to (C)).
 use Rattle.std.specs.Prelude.{ℕ, zero, suc, ◌+◌, ◌-◌, ◌*◌, ◌/◌, ◌%◌, ◌≤◌, ◌<◌, ◌≡◌, refl, Bool, true, false, List, [], ◌∷◌, length, get_or, take, drop, ltb, eqb}
-use Rattle.std.proofs.Common.{ap, ◌∙◌, drop-cons, get_or-drop, ltb-true, ltb-false, lt-ltb, le-ltb, eqb-true, eq-eqb, ne_eqb, add-one, arith}
+use Rattle.std.proofs.Common.{ap, ◌∙◌, drop-cons, take_all, ltb-true, ltb-false, lt-ltb, le-ltb, eqb-true, eq-eqb, ne_eqb, add-one, arith}
 use Rattle.std.proofs.Math.Path.{sym}
 use Rattle.std.proofs.lemmas.Bool.{eqb-false}
 use Rattle.spec.specs.Outcome.{all}
@@ -105,17 +105,9 @@ bytes_take (suc n) [] h i = h i
 bytes_take (suc n) (x ∷ l) h zero = h 0
 bytes_take (suc n) (x ∷ l) h (suc i) = bytes_take n l (λ j. h (suc j)) i
 
--- and so is the rest
-bytes_drop : (n : ℕ) (l : List ℕ) → Bytes l → Bytes (drop n l)
-bytes_drop n l h i = rw get_or-drop (h (n + i))
-
--- and a part of them
-bytes_part : (n : ℕ) (f : List ℕ) (at : ℕ) → Bytes f → Bytes (take n (drop at f))
-bytes_part n f at h = bytes_take n (drop at f) (bytes_drop at f h)
-
--- the sum of a part
-sum_part : (n : ℕ) (f : List ℕ) (at : ℕ) → Bytes f → sum_words (take n (drop at f)) ≡ folded (plain (take n (drop at f)))
-sum_part n f at h = sum_plain (take n (drop at f)) (bytes_part n f at h)
+-- the sum of the front
+sum_part : (n : ℕ) (f : List ℕ) → Bytes f → sum_words (take n f) ≡ folded (plain (take n f))
+sum_part n f h = sum_plain (take n f) (bytes_take n f h)
 
 -- ---- four bytes at once, the low byte first
 
@@ -158,12 +150,15 @@ fold_eight f s t o n k h =
     ∙ fold_four f (s + t + little f o) (o + 4) (n - 4) (omega arith) (omega arith)
     ∙ rw (a, b, c)
 
+-- a block is all its 512 bytes
+whole : (f : List ℕ) → length f ≡ 512 → take 512 f ≡ f
+whole f l = take_all 512 f (omega (arith, l))
+
 -- nothing summed yet
-pub fold_none : (f : List ℕ) (at : ℕ) → Bytes f → folded ((0 + 0) * 256 + plain (take (512 - 0) (drop (at + 0) f))) ≡ sum_words (take 512 (drop at f))
-fold_none f at h =
-    let a : at + 0 ≡ at = omega arith in
-    let b : 0 + plain (take 512 (drop at f)) ≡ plain (take 512 (drop at f)) = omega arith in
-    rw (a, b) (sym (sum_part 512 f at h))
+pub fold_none : (f : List ℕ) → Bytes f → length f ≡ 512 → folded ((0 + 0) * 256 + plain (take (512 - 0) (drop 0 f))) ≡ sum_words f
+fold_none f h l =
+    let b : (0 + 0) * 256 + plain (take 512 f) ≡ plain f = omega (arith, ap plain (whole f l)) in
+    ap folded b ∙ sym (sum_plain f h)
 
 -- nothing left
 pub fold_all : (f : List ℕ) (s n : ℕ) → n ≡ 0 → folded (s * 256 + plain (take n f)) ≡ folded (s * 256)
@@ -195,20 +190,20 @@ sum_lt bs h = rw (sum_plain bs h) (go (plain bs))
     go zero = rw folded_zero (omega arith)
     go (suc n) = rw (folded_suc n) (omega arith)
 
-module _ (f : List ℕ) (at : ℕ) (h : Bytes f) (l : at + 512 ≤ length f) where
+module _ (f : List ℕ) (h : Bytes f) (l : length f ≡ 512) where
   -- the sum of a block is that of its other bytes with the stored word
-  pub sum_stored : sum_words (take 512 (drop at f)) ≡ add_round (word f (at + 510)) (sum_words (take 510 (drop at f)))
+  pub sum_stored : sum_words f ≡ add_round (word f 510) (sum_words (take 510 f))
   sum_stored =
-      sum_part 512 f at h
-      ∙ ap folded (plain_end f 255 at (omega arith) ∙ omega arith)
-      ∙ sym (folded_add (word f (at + 510)) (plain (take 510 (drop at f))) (word_lt f (at + 510) h))
-      ∙ ap (add_round (word f (at + 510))) (sym (sum_part 510 f at h))
+      sum_plain f h
+      ∙ ap folded (sym (ap plain (whole f l)) ∙ plain_end f 255 0 (omega arith) ∙ omega arith)
+      ∙ sym (folded_add (word f 510) (plain (take 510 f)) (word_lt f 510 h))
+      ∙ ap (add_round (word f 510)) (sym (sum_part 510 f h))
 
   -- or just that, where the stored word is 0
-  pub sum_unstored : word f (at + 510) ≡ 0 → sum_words (take 512 (drop at f)) ≡ sum_words (take 510 (drop at f))
+  pub sum_unstored : word f 510 ≡ 0 → sum_words f ≡ sum_words (take 510 f)
   sum_unstored z =
-      let x : ℕ = sum_words (take 510 (drop at f)) in
-      sum_stored ∙ rw z (round_low 0 x (omega (arith, sum_lt (take 510 (drop at f)) (bytes_part 510 f at h))) ∙ omega arith)
+      let x : ℕ = sum_words (take 510 f) in
+      sum_stored ∙ rw z (round_low 0 x (omega (arith, sum_lt (take 510 f) (bytes_take 510 f h))) ∙ omega arith)
 
 -- ---- the checksum from a sum that is not folded yet
 
@@ -294,18 +289,18 @@ checksum_zeros bs h = ap (λ (x : ℕ). eqb 65535 (65535 - x)) (sum_plain bs h) 
     go zero = ap (λ (x : ℕ). eqb 65535 (65535 - x)) folded_zero
     go (suc n) = ne_eqb 65535 (65535 - folded (suc n)) (λ z. omega (arith, z, folded_suc n)) ∙ sym (ne_eqb (suc n) 0 (λ z. omega (arith, z)))
 
-module _ (f : List ℕ) (at : ℕ) (h : Bytes f) (l : at + 512 ≤ length f) where
+module _ (f : List ℕ) (h : Bytes f) (l : length f ≡ 512) where
   -- a block's stored word is 65535: its checksum where the others are zeros
-  pub stored_zeros : word f (at + 510) ≡ 65535 → (n : ℕ) → n ≡ 510 → all (λ x. eqb x 0) (take n (drop at f)) ≡ eqb (word f (at + 510)) (checksum (take 510 (drop at f)))
-  stored_zeros e n z = rw (z, e) (sym (checksum_zeros (take 510 (drop at f)) (bytes_part 510 f at h)))
+  pub stored_zeros : word f 510 ≡ 65535 → all (λ x. eqb x 0) (take 510 f) ≡ eqb (word f 510) (checksum (take 510 f))
+  stored_zeros e = rw e (sym (checksum_zeros (take 510 f) (bytes_take 510 f h)))
 
-  module _ (s : ℕ) (e : folded (s * 256) ≡ sum_words (take 512 (drop at f))) where
+  module _ (s : ℕ) (e : folded (s * 256) ≡ sum_words f) where
     -- the whole sum is 0: it is not
-    pub stored_nothing : s ≡ 0 → false ≡ eqb (word f (at + 510)) (checksum (take 510 (drop at f)))
+    pub stored_nothing : s ≡ 0 → false ≡ eqb (word f 510) (checksum (take 510 f))
     unfolding checksum
-    stored_nothing z = sym (stored_none (word f (at + 510)) _ s (sum_lt (take 510 (drop at f)) (bytes_part 510 f at h)) (e ∙ sum_stored f at h l) z)
+    stored_nothing z = sym (stored_none (word f 510) _ s (sum_lt (take 510 f) (bytes_take 510 f h)) (e ∙ sum_stored f h l) z)
 
     -- any other: where the whole sum is a multiple of 65535
-    pub stored_sums : (word f (at + 510) ≡ 65535 → ⊥) → 0 < s → eqb (s % 65535) 0 ≡ eqb (word f (at + 510)) (checksum (take 510 (drop at f)))
+    pub stored_sums : (word f 510 ≡ 65535 → ⊥) → 0 < s → eqb (s % 65535) 0 ≡ eqb (word f 510) (checksum (take 510 f))
     unfolding checksum
-    stored_sums w p = sym (stored_some (word f (at + 510)) _ s (omega (arith, w, word_lt f (at + 510) h)) (sum_lt (take 510 (drop at f)) (bytes_part 510 f at h)) (e ∙ sum_stored f at h l) p)
+    stored_sums w p = sym (stored_some (word f 510) _ s (omega (arith, w, word_lt f 510 h)) (sum_lt (take 510 f) (bytes_take 510 f h)) (e ∙ sum_stored f h l) p)

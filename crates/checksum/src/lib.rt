@@ -1,7 +1,7 @@
 // The Internet checksum (RFC 1071) of a block: summed in a wide number, folded once at the end.
 #![tactic(auto)]
 
-ghost use Rattle.std.specs.Prelude.{◌≡◌, ◌+◌, ◌*◌, ◌<◌, ◌≤◌, length, take, drop};
+ghost use Rattle.std.specs.Prelude.{◌≡◌, ◌+◌, ◌*◌, ◌<◌, length, take};
 ghost use Rattle.spec.specs.Wire.{word, sum_words, checksum};
 ghost use Rattle.checksum.specs.Sum.{folded, little};
 
@@ -21,28 +21,27 @@ fn little_at(file: &[u8], o: usize) -> usize
     u32::from_le_bytes([file[o], file[o + 1], file[o + 2], file[o + 3]]) as usize
 }
 
-// The 512 bytes at `at` summed with the low byte first, four bytes at once, in two sums that don't wait for each other.
+// A block's bytes summed with the low byte first, four bytes at once, in two sums that don't wait for each other.
 // 256 times the result folds to the sum of the words: the order of the bytes doesn't matter to it (RFC 1071, 2 (B)).
-pub fn total(file: &[u8], at: usize) -> usize
-    requires { at + 512 ≤ length file.now }
-    ensures { (folded (result * 256) ≡ sum_words (take 512 (drop at file.now))) × (result < 1099511627776) }
+pub fn total(block: &[u8; 512]) -> usize
+    ensures { (folded (result * 256) ≡ sum_words block.now) × (result < 1099511627776) }
 {
     let mut even = 0;
     let mut odd = 0;
     for i in 0..64 {
-        let o = at + i * 8;
-        even += little_at(file, o);
-        odd += little_at(file, o + 4);
+        let o = i * 8;
+        even += little_at(block, o);
+        odd += little_at(block, o + 4);
     }
     even + odd
 }
 
-// The checksum of the 510 bytes at `at`, where the two bytes after them are 0.
-pub fn checksum_at(file: &[u8], at: usize) -> usize
-    requires { (at + 512 ≤ length file.now) × (word file.now (at + 510) ≡ 0) }
-    ensures { result ≡ checksum (take 510 (drop at file.now)) }
+// The checksum of a block's first 510 bytes, where the two bytes after them are 0.
+pub fn checksum_of(block: &[u8; 512]) -> usize
+    requires { word block.now 510 ≡ 0 }
+    ensures { result ≡ checksum (take 510 block.now) }
 {
-    let s = total(file, at);
+    let s = total(block);
     if s == 0 {
         return 65535;
     }

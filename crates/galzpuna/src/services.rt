@@ -2,18 +2,20 @@
 ghost use Rattle.std.specs.Prelude.{◌≡◌, length, []};
 ghost use Rattle.spec.specs.Outcome.{u16};
 ghost use Rattle.spec.specs.Services.{judging, resolving, drawing, rounds};
+ghost use Rattle.wire.specs.Kind.{number_of_file, blocks_of_file};
 ghost use Rattle.writer.specs.Laid.{laid_all};
 ghost use Rattle.answers.specs.Delivered.{delivered_of};
 ghost use Rattle.galzpuna.specs.Services.{answered, told, Small, Served};
 
 use crate::Answer;
-use answers::deliver;
+use answers::finish_file;
 use drawing::draw_moves;
 use motion::State;
 use opening::{Opened, open_list};
 use planning::{judge_files, resolve_files};
 use refusals::Refusal;
 use timing::write_rounds;
+use wire::FileKind;
 use writer::put_word;
 
 // C's answer of what a service comes to: a refusal leaves the whole buffer zero.
@@ -37,11 +39,11 @@ fn answer(served: Result<usize, Refusal>, out: &mut [u8]) -> Answer
 }
 
 // Counts what was laid behind the two bytes of the count, and finishes the file of `len` payload bytes: how many bytes it has.
-fn finish(out: &mut [u8], count: usize, kind: u8, limit: u16, len: usize) -> Result<usize, Refusal>
-    ensures { Served (delivered_of kind limit len (laid_all out.old 0 (u16 count))) result out.new }
+fn finish(out: &mut [u8], count: usize, kind: FileKind, len: usize) -> Result<usize, Refusal>
+    ensures { Served (delivered_of (number_of_file kind) (blocks_of_file kind) len (laid_all out.old 0 (u16 count))) result out.new }
 {
     put_word(out, 0, count);
-    Ok(deliver(out, kind, limit, len)?)
+    Ok(finish_file(out, kind, len)?)
 }
 
 // Judging: nothing is written.
@@ -57,7 +59,7 @@ fn resolve(map: &[u8], placing: &[u8], plan: &[u8], out: &mut [u8]) -> Result<us
     ensures { Served (resolving map.now placing.now plan.now (length out.old)) result out.new }
 {
     let count = resolve_files(map, placing, plan, out)?;
-    finish(out, count, 4, 128, 2 + count * 3)
+    finish(out, count, FileKind::Moves, 2 + count * 3)
 }
 
 // Drawing: the bytes of the plan.
@@ -67,7 +69,7 @@ fn draw(map: &[u8], placing: &[u8], moves: &[u8], out: &mut [u8]) -> Result<usiz
     let Opened { yard, count } = open_list(map, placing, moves)?;
     let state = State::standing(yard.placing.starts, yard.placing.robots as usize);
     let drawn = draw_moves(moves, count, &yard.map, state, out);
-    finish(out, drawn.steps, 3, 64, drawn.bytes)
+    finish(out, drawn.steps, FileKind::Plan, drawn.bytes)
 }
 
 // Rounds: the bytes of the round sheet.
@@ -76,7 +78,7 @@ fn time(map: &[u8], placing: &[u8], moves: &[u8], out: &mut [u8]) -> Result<usiz
 {
     let Opened { count, .. } = open_list(map, placing, moves)?;
     write_rounds(moves, count, out);
-    finish(out, count, 5, 128, 2 + count * 2)
+    finish(out, count, FileKind::Rounds, 2 + count * 2)
 }
 
 // Judging: is the plan cleared? Nothing is written.

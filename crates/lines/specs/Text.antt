@@ -115,16 +115,15 @@ put_as e p = rw e at p
 pub put_length : {t u bs : List ℕ} {at r : ℕ} → Put t at bs u r → length u ≡ length t
 put_length {t} {u} {bs} {at} {r} p = ap length p.bytes ∙ length-sets t at bs
 
--- one byte more of a word
-pub put_more : (t u v word : List ℕ) (at i : ℕ) → i < length word → Put t at (take i word) u (at + i) → v ≡ set u (at + i) (get_or word i 0) → Put t at (take (i + 1) word) v (at + (i + 1))
-put_more t u v word at i h p e =
-    let n : at + (i + 1) ≡ at + i + 1 = omega arith in
+-- one byte more of a word that stands at the front
+pub put_more : (t u v word : List ℕ) (i : ℕ) → i < length word → Put t 0 (take i word) u i → v ≡ set u i (get_or word i 0) → Put t 0 (take (i + 1) word) v (i + 1)
+put_more t u v word i h p e =
     let w : take i word ++ get_or word i 0 ∷ [] ≡ take (i + 1) word = rw (add-one i) (sym (take-suc word i 0 h)) in
-    rw n (put_as w (put_then p (put_one e)))
+    put_as w (put_then p (put_one e))
 
--- all bytes of a word
-pub put_all : (t u word : List ℕ) (at i : ℕ) → length word ≤ i → i ≤ length word → Put t at (take i word) u (at + i) → Put t at word u (at + length word)
-put_all t u word at i h l p = let e : i ≡ length word = omega arith in rw e at (put_as (take_all i word h) p)
+-- all its bytes
+pub put_all : (t u word : List ℕ) (i : ℕ) → length word ≤ i → i ≤ length word → Put t 0 (take i word) u i → Put t 0 word u (length word)
+put_all t u word i h l p = let e : i ≡ length word = omega arith in rw e at (put_as (take_all i word h) p)
 
 -- a number of one digit
 pub put_low : (t u : List ℕ) (at n : ℕ) → n < 10 → u ≡ set t at (48 + n) → Put t at (decimal n) u (at + 1)

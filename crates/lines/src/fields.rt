@@ -1,7 +1,7 @@
 // Text put into a buffer from a place on; what is past the buffer's end is left out.
 // Numbers go by no `write!`, whose contract lets it fail, since these functions cannot. `text` and `at` are no struct, since each
 // method of one that lends the buffer would also have to promise that it still holds the same buffer.
-ghost use Rattle.std.specs.Prelude.{◌≡◌, ◌+◌, ◌≤◌, length, set};
+ghost use Rattle.std.specs.Prelude.{◌≡◌, ◌+◌, ◌≤◌, set};
 ghost use Rattle.lines.specs.Text.{decimal, Put};
 ghost use Rattle.lines.specs.Listing.{field};
 
@@ -14,15 +14,14 @@ fn put(text: &mut [u8], at: usize, b: u8)
     }
 }
 
-// Puts the bytes of a word.
-pub fn put_word(text: &mut [u8], at: usize, word: &[u8]) -> usize
-    requires { (at ≤ 4294967296) × (length word.now ≤ 4294967296) }
-    ensures { Put text.old at word.now text.new result }
+// Puts the bytes of a word to the front.
+pub fn put_word(text: &mut [u8], word: &[u8]) -> usize
+    ensures { Put text.old 0 word.now text.new result }
 {
     for (i, b) in word.iter().enumerate() {
-        put(text, at + i, *b);
+        put(text, i, *b);
     }
-    at + word.len()
+    word.len()
 }
 
 // Puts a number in decimal.

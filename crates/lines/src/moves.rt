@@ -42,7 +42,7 @@ pub fn put_moves(moves: &[u8], sheet: &[u8], count: usize, text: &mut [u8]) -> u
     ensures put { Put text.old 0 (moves_word ++ field count newline ++ lines_by (file_bytes moves.now) (file_bytes sheet.now) 0 count) text.new result }
     ensures upper_bound { result ≤ 387066 }
 {
-    let head = put_word(text, 0, b"moves ");
+    let head = put_word(text, b"moves ");
     let at = put_field(text, head, count as u32, b'\n');
     put_lines(moves, sheet, count, text, at)
 }
@@ -52,7 +52,7 @@ pub fn put_refusal(number: u32, place: u32, text: &mut [u8]) -> usize
     ensures put { Put text.old 0 (refused_text number place) text.new result }
     ensures upper_bound { result ≤ 387066 }
 {
-    let head = put_word(text, 0, b"refused ");
+    let head = put_word(text, b"refused ");
     let at = put_field(text, head, number, b' ');
     put_field(text, at, place, b'\n')
 }

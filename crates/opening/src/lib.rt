@@ -10,6 +10,7 @@ use layout::{MapTables, read_map};
 use placing::{PlacingTables, read_placing};
 use refusals::Refusal;
 use replay::check_moves;
+use wire::FileKind;
 
 // A map and a placing that are accepted.
 #[derive(Drop)]
@@ -29,7 +30,7 @@ pub struct Opened {
 pub fn check_map(map: &[u8]) -> Result<usize, Refusal>
     ensures { FiledIs map.now result }
 {
-    let len = check_file(map, 1, 9).map_err(Refusal::MapFile)?;
+    let len = check_file(map, FileKind::Map).map_err(Refusal::MapFile)?;
     Ok(len)
 }
 
@@ -59,7 +60,7 @@ fn open_filed(map: &[u8], len: usize, placed: &[u8], moves: &[u8]) -> Result<Ope
 {
     let mut rows = [[0u64; 2]; 128];
     let yard = read_yard(map, len, placed, &mut rows)?;
-    let len = check_file(moves, 4, 128).map_err(Refusal::ListFile)?;
+    let len = check_file(moves, FileKind::Moves).map_err(Refusal::ListFile)?;
     let n = yard.map.vertices();
     let PlacingTables {
         robots,

@@ -8,6 +8,7 @@ ghost use Rattle.placing.specs.declared.PlacingFault.TheVariants.{File};
 ghost use Rattle.placing.specs.Placing.{placing_in, Marked, VertexIs, RobotsAre, PlacingIs};
 
 use checking::{FileFault, check_file};
+use wire::FileKind;
 use zoning::byte;
 
 // Why a placing is refused, with the block or the payload offset.
@@ -100,6 +101,6 @@ fn read_payload(file: &[u8], m: usize, n: usize) -> Result<PlacingTables, Placin
 pub fn read_placing(file: &[u8], n: usize) -> Result<PlacingTables, PlacingFault>
     ensures { (p : Map) → p.size ≡ n → PlacingIs (placing_in p file.now) result }
 {
-    let m = check_file(file, 2, 1)?;
+    let m = check_file(file, FileKind::Placing)?;
     read_payload(file, m, n)
 }

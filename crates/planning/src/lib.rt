@@ -12,6 +12,7 @@ use opening::{Yard, check_map, read_yard};
 use placing::PlacingTables;
 use refusals::Refusal;
 use resolve::resolve_plan;
+use wire::FileKind;
 
 // Reads map, placing and plan, where the map's blocks have passed, and judges the plan: the map and placing of one that is cleared.
 fn read_filed(map: &[u8], len: usize, placed: &[u8], plan: &[u8]) -> Result<Yard, Refusal>
@@ -20,7 +21,7 @@ fn read_filed(map: &[u8], len: usize, placed: &[u8], plan: &[u8]) -> Result<Yard
 {
     let mut rows = [[0u64; 2]; 128];
     let yard = read_yard(map, len, placed, &mut rows)?;
-    let len = check_file(plan, 3, 64).map_err(Refusal::PlanFile)?;
+    let len = check_file(plan, FileKind::Plan).map_err(Refusal::PlanFile)?;
     let PlacingTables {
         robots,
         starts,

@@ -1,9 +1,11 @@
 // Block files built in code: payload bytes are put to their places, and the file is finished by the library's own writer.
 ghost use Rattle.std.specs.Prelude.{◌≤◌};
 
+use wire::FileKind;
+
 // Finishes the file of `len` payload bytes. One that is not finished is all zero, which its check shows.
-fn finish(file: &mut [u8], kind: u8, limit: u16, len: usize) {
-    let _ = answers::deliver(file, kind, limit, len);
+fn finish(file: &mut [u8], kind: FileKind, len: usize) {
+    let _ = answers::deliver(file, kind, len);
 }
 
 // A map of one hall of n vertices, listed in number order.
@@ -16,7 +18,7 @@ pub fn hall_map(file: &mut [u8], n: u8) {
     let m = usize::from(n);
     let edges = put_edges(file, n);
     writer::put_word(file, 4 + m, edges);
-    finish(file, 1, 9, 6 + m + 2 * edges);
+    finish(file, FileKind::Map, 6 + m + 2 * edges);
 }
 
 // Lists the n vertices of the one zone.
@@ -47,13 +49,13 @@ pub fn at_goals(file: &mut [u8], k: u8) {
         writer::put_byte(file, at, i);
         writer::put_byte(file, at + 1, i);
     }
-    finish(file, 2, 1, 1 + 2 * usize::from(k));
+    finish(file, FileKind::Placing, 1 + 2 * usize::from(k));
 }
 
 // A plan of no steps.
 pub fn no_steps(file: &mut [u8]) {
     writer::put_word(file, 0, 0);
-    finish(file, 3, 64, 2);
+    finish(file, FileKind::Plan, 2);
 }
 
 // A map of three vertices: hall 0, stack 1, 2, edges 0-2 and 1-2.
@@ -64,7 +66,7 @@ pub fn stack_map(file: &mut [u8]) {
     writer::put_word(file, 9, 2);
     writer::put_byte(file, 11, 0);
     writer::put_three(file, 12, 2, 1, 2);
-    finish(file, 1, 9, 15);
+    finish(file, FileKind::Map, 15);
 }
 
 // How many bytes of two blocks differ.

@@ -1,2 +1,3 @@
--- Payloads: the meanings that the functions' contracts cite, and the laws behind their proofs.
+-- Block files: the meanings that the functions' contracts cite (Kind, Payload), and the laws behind their proofs.
+pub mod Kind
 pub mod Payload

@@ -1,7 +1,7 @@
 -- A payload where it stands in a file: 504 bytes of each block, after the six of its head.
 use Rattle.std.specs.Prelude.{ℕ, zero, suc, ◌+◌, ◌-◌, ◌*◌, ◌/◌, ◌%◌, ◌≤◌, ◌<◌, ◌≡◌, refl, ◌⊎◌, Bool, true, false, List, [], ◌∷◌, ◌++◌, length, get_or, set, take, drop, ltb}
 use Rattle.std.proofs.Common.{ap, sym, ◌∙◌, inl, inr, ⊎_elim, length-append, length-drop, get_or-drop, get_or-take, get_or-append-add, get_or-set_same, get_or-set_other, length-take-le, ext_get_or, ltb-true, ltb-false, arith}
-use Rattle.std.proofs.Math.ListN.{get_or-append}
+use Rattle.std.proofs.Math.ListN.{get_or-append, get_or-eq_default}
 use Rattle.std.proofs.Math.Seq.{take-nil}
 use Rattle.std.proofs.Math.Decide.{ℕ_discrete}
 use Rattle.spec.specs.Wire.{word}
@@ -64,6 +64,18 @@ copied_more f from list i x h e c j b = pick (ℕ_discrete j i)
     pick : Dec (j ≡ i) → get_or (set list i x) j 0 ≡ get_or f (place_of (from + j)) 0
     pick (yes q) = rw q (get_or-set_same list i x 0 h ∙ e)
     pick (no q) = get_or-set_other list i j x 0 q ∙ c j (omega arith)
+
+-- byte `off` of the payload stands at `place`, if not past the file's end
+abbrev pub Near : List ℕ → ℕ → ℕ → Type 0
+Near f place off = (place < length f → place ≡ place_of off) × (place ≤ place_of off)
+
+-- so that it is read there, as every place past the end reads 0
+pub near_read : (f : List ℕ) (place off : ℕ) → Near f place off → get_or f place 0 ≡ get_or f (place_of off) 0
+near_read f place off h =
+    ⊎_elim
+    (λ (q : place < length f). ap (λ (i : ℕ). get_or f i 0) (h.0 q))
+    (λ (q : length f ≤ place). get_or-eq_default f 0 q ∙ sym (get_or-eq_default f 0 (omega (arith, h.1))))
+    (lt_or_ge place (length f))
 
 -- three of them, one by one
 pub three_copied : (f : List ℕ) (off : ℕ) (l : List ℕ) → Copied f off l 3 → ThreeAt f off (record { first = get_or l 0 0; second = get_or l 1 0; third = get_or l 2 0 })

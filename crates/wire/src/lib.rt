@@ -1,7 +1,10 @@
-// Payloads of block files (document 01, "Block files"), read where they stand.
+// Block files (document 01, "Block files"): their kinds, and their payloads read where they stand.
 //
 //     payload    the bytes of a payload, read from the file
 #![tactic(auto)]
+
+ghost use Rattle.std.specs.Prelude.{◌≡◌};
+ghost use Rattle.wire.specs.Kind.{number_of_file, blocks_of_file};
 
 pub mod payload;
 
@@ -25,4 +28,41 @@ pub struct Four {
     pub second: u8,
     pub third: u8,
     pub fourth: u8,
+}
+
+// A block file's kind.
+#[derive(Clone, Copy, Debug, PartialEq, Eq)]
+pub enum FileKind {
+    Map,
+    Placing,
+    Plan,
+    Moves,
+    Rounds,
+}
+
+impl FileKind {
+    // Byte 0 of the kind's blocks.
+    pub fn number(self) -> u8
+        ensures { result ≡ number_of_file self }
+    {
+        match self {
+            FileKind::Map => 1,
+            FileKind::Placing => 2,
+            FileKind::Plan => 3,
+            FileKind::Moves => 4,
+            FileKind::Rounds => 5,
+        }
+    }
+
+    // How many blocks a file of the kind has at most.
+    pub fn most_blocks(self) -> u16
+        ensures { result ≡ blocks_of_file self }
+    {
+        match self {
+            FileKind::Map => 9,
+            FileKind::Placing => 1,
+            FileKind::Plan => 64,
+            FileKind::Moves | FileKind::Rounds => 128,
+        }
+    }
 }

@@ -61,17 +61,21 @@ pub fn place_after(at: usize) -> usize
 
 // N bytes of the payload from place `at` of the file on, 0 past its end: at once where one block and the file have all of them.
 fn bytes_from<const N: usize>(file: &[u8], at: usize) -> [u8; N]
-    requires { (at < 9223372036854775808) × (N ≤ 504) }
+    requires { N ≤ 504 }
     ensures { (off : ℕ) → at ≡ place_of off → Copied file.now off result N }
 {
     let mut bytes = [0; N];
-    if at % 512 + N <= 510 && at + N <= file.len() {
+    let inside = at % 512 + N <= 510;
+    if inside && N <= file.len() && at <= file.len() - N {
         bytes.copy_from_slice(&file[at..at + N]);
     } else {
         let mut place = at;
         for byte in &mut bytes {
             *byte = byte_at(file, place);
-            place = next_place(place);
+            // Past the file's end any place reads 0.
+            if place < file.len() {
+                place = next_place(place);
+            }
         }
     }
     bytes
@@ -79,7 +83,6 @@ fn bytes_from<const N: usize>(file: &[u8], at: usize) -> [u8; N]
 
 // Three bytes of the payload from place `at` of the file on, as those of a move.
 pub fn three_from(file: &[u8], at: usize) -> Three
-    requires { at < 4611686018427387904 }
     ensures { (off : ℕ) → at ≡ place_of off → ThreeAt file.now off result }
 {
     let [first, second, third] = bytes_from::<3>(file, at);

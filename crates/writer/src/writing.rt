@@ -53,15 +53,14 @@ pub fn put_word(out: &mut [u8], off: usize, n: usize)
 
 // Puts n to place `at` of the buffer as a two-byte number that one block holds.
 pub fn put_word_at(out: &mut [u8], at: usize, n: u16)
-    requires { at < 4611686018427387904 }
     ensures { (off : ℕ) → at ≡ place_of off → off % 504 < 503 → out.new ≡ laid_all out.old off (u16 n) }
 {
     let [high, low] = word_bytes(usize::from(n));
-    if at + 1 < out.len() {
+    if at < out.len() {
         out[at] = high;
-        out[at + 1] = low;
-    } else if at < out.len() {
-        out[at] = high;
+        if at + 1 < out.len() {
+            out[at + 1] = low;
+        }
     }
 }
 

@@ -1,19 +1,23 @@
 -- `seal_block`: head, padding and checksum make the block.
-use native.Mathlib.Omega.{arith}
-use mathlib.Core.Path.{◌∙◌}
-use Rattle.answers.specs.Made.{made, made_length, unstored, sealed}
+use mathlib.Core.Path.{ap, ◌∙◌}
+use lib.ListN.{length}
+use Rattle.wire.specs.Kind.{number_of_file}
+use Rattle.answers.specs.Made.{made, unstored, sealed}
 use Rattle.answers.proofs.seal_block.Goals as goal
 
-pub checksum_at-requires : goal.checksum_at-requires
-checksum_at-requires c =
-    let a = c.args in
-    let q = c.requires in
-    let w = made a.b.now a.kind a.i a.fill q.0 q.1 _ _ _ _ c.word_bytes.ensures c.word_bytes-2.ensures c.copy_from_slice.ensures.after (c.fill.ensures.after (λ y e. e)) in
-    (omega (arith, made_length a.b.now a.kind a.i a.fill q.0 q.1 _ w), unstored a.b.now a.kind a.i a.fill q.0 q.1 _ w)
+pub checksum_of-requires : goal.checksum_of-requires
+checksum_of-requires c =
+    let b = c.in-Some.b.now in
+    let n = ap length c.in-Some.ensures.cases.same ∙ c.requires.0 in
+    let k = number_of_file c.args.kind in
+    let w = made b k c.args.i c.args.fill n c.requires.1 _ _ _ _ _ c.number.ensures c.word_bytes.ensures c.word_bytes-2.ensures c.copy_from_slice.ensures.after (c.fill.ensures.after (λ y e. e)) in
+    unstored b k c.args.i c.args.fill n c.requires.1 _ w
 
 pub returns : goal.returns
 returns c =
-    let a = c.args in
-    let q = c.requires in
-    let w = made a.b.now a.kind a.i a.fill q.0 q.1 _ _ _ _ c.word_bytes.ensures c.word_bytes-2.ensures c.copy_from_slice.ensures.after (c.fill.ensures.after (λ y e. e)) in
-    sealed a.b.now a.kind a.i a.fill q.0 q.1 _ w _ _ c.checksum_at.ensures (c.copy_from_slice-2.ensures.after ∙ c.word_bytes-sum.ensures)
+    let b = c.in-Some.b.now in
+    let s = c.in-Some.ensures.cases.same in
+    let n = ap length s ∙ c.requires.0 in
+    let k = number_of_file c.args.kind in
+    let w = made b k c.args.i c.args.fill n c.requires.1 _ _ _ _ _ c.number.ensures c.word_bytes.ensures c.word_bytes-2.ensures c.copy_from_slice.ensures.after (c.fill.ensures.after (λ y e. e)) in
+    rw (← s) (sealed b k c.args.i c.args.fill n c.requires.1 _ w _ _ c.checksum_of.ensures (c.copy_from_slice-2.ensures.after ∙ c.word_bytes-sum.ensures))

@@ -1,78 +1,85 @@
+use borrow.Author.Tests.{eqb-true, eqb-false}
 use native.Mathlib.Omega.{arith}
-use Prim.Native.Nat.{◌/◌}
-use mathlib.Core.Path.{sym, ◌∙◌}
-use lib.ListN.{length}
+use Prim.Native.Nat.{ℕ, ◌*◌, ◌/◌, ◌%◌, ◌<◌}
+use mathlib.Core.List.{List, []}
+use mathlib.Core.Path.{◌≡◌, ap, sym, ◌∙◌}
+use lib.ListN.{length, get_or}
+use Rattle.std.specs.Simd.{first_chunks}
+use Rattle.wire.specs.Kind.{number_of_file, blocks_of_file}
+use Rattle.checking.specs.Block.{block_at, chunk_at}
 use Rattle.checking.specs.Checked.{size_odd, size_none, size_over, going_start, going_sum, going_head, going_fill, going_end, going_whole, good_le, going_more}
-use Rattle.checking.proofs.check_file.Goals.{then-file-ne0-via-then-file-ne0, then-file-ne0-via-else-file-ne0+then-count-lt1, then-file-ne0-via-else-file-ne0+else-count-lt1+then-count-limit}
+use Rattle.checking.proofs.check_file.Goals.{then-not-is_empty-via-then-not-is_empty, then-not-is_empty-via-else-not-is_empty+then-count-lt1, then-not-is_empty-via-else-not-is_empty+else-count-lt1+then-count-from}
 use Rattle.checking.proofs.check_file.Goals as goal
 
-pub returns-then-file-ne0-clause-by_index : goal.returns-then-file-ne0-clause-by_index
-returns-then-file-ne0-clause-by_index c base =
-    let a = c.args in
-    elim c.then-file-ne0.branch [
-      | then-file-ne0-via-then-file-ne0 w ↦ size_odd a.file.now base a.kind a.limit w.if-file-ne0.true
-      | then-file-ne0-via-else-file-ne0+then-count-lt1 w ↦ size_none a.file.now base a.kind a.limit w.if-file-ne0.false w.if-count-lt1.true
-      | then-file-ne0-via-else-file-ne0+else-count-lt1+then-count-limit w ↦ size_over a.file.now base a.kind a.limit w.if-file-ne0.false w.if-count-lt1.false w.if-count-limit.true
+-- block i of the file's blocks
+block : (f : List ℕ) (blocks : List (List ℕ)) (i : ℕ) → blocks ≡ first_chunks 512 (length f / 512) f → length blocks ≡ length f / 512 → i < length blocks
+    → get_or blocks i [] ≡ block_at f (i * 512)
+block f blocks i e l h = ap (λ (x : List (List ℕ)). get_or x i []) e ∙ chunk_at (length f / 512) i f [] (omega arith)
+
+pub returns-then-not-is_empty-clause-by_index : goal.returns-then-not-is_empty-clause-by_index
+returns-then-not-is_empty-clause-by_index c base =
+    let f = c.args.file.now in
+    let n = number_of_file c.args.kind in
+    let m = blocks_of_file c.args.kind in
+    let e = c.as_chunks.ensures in
+    elim c.then-not-is_empty.branch [
+      | then-not-is_empty-via-then-not-is_empty w ↦ size_odd f base n m (λ z. eqb-false _ _ (sym c.is_empty.ensures ∙ w.if-not-is_empty.true) (e.back_len ∙ z))
+      | then-not-is_empty-via-else-not-is_empty+then-count-lt1 w ↦ size_none f base n m (sym e.back_len ∙ eqb-true _ _ (sym c.is_empty.ensures ∙ w.if-not-is_empty.false)) (omega (arith, e.front_len, w.if-count-lt1.true))
+      | then-not-is_empty-via-else-not-is_empty+else-count-lt1+then-count-from w ↦ size_over f base n m (sym e.back_len ∙ eqb-true _ _ (sym c.is_empty.ensures ∙ w.if-not-is_empty.false)) (omega (arith, e.front_len, w.if-count-lt1.false)) (omega (arith, e.front_len, w.if-count-from.true, w.from.ensures, w.most_blocks.ensures))
     ]
 
 pub loop-i-init : goal.loop-i-init
-loop-i-init c =
-    let a = c.args in
-    going_start a.kind a.limit a.file.now c.if-file-ne0.false c.if-count-lt1.false c.if-count-limit.false
+loop-i-init c = going_start _ _ c.args.file.now _ (sym c.as_chunks.ensures.back_len ∙ eqb-true _ _ (sym c.is_empty.ensures ∙ c.if-not-is_empty.false)) c.as_chunks.ensures.front_len c.if-count-lt1.false (omega (arith, c.if-count-from.false, c.from.ensures, c.most_blocks.ensures))
 
 pub returns-then-not-sum_ok : goal.returns-then-not-sum_ok
 returns-then-not-sum_ok c =
-    let a = c.args in
-    let o = c.loop-i in record {
-      by_index = going_sum a.kind a.limit a.file.now (length a.file.now / 512) o.i o.len o.invariant c.loop-i-test.true
-          (sym c.sum_ok.ensures ∙ c.if-not-sum_ok.true);
-      held = omega arith;
+    let f = c.args.file.now in
+    let o = c.loop-i in
+    let b = block f _ o.i c.as_chunks.ensures.front c.as_chunks.ensures.front_len c.loop-i-test.true in
+    record {
+      by_index = going_sum _ _ f _ o.i o.len o.invariant c.loop-i-test.true (rw b at (sym c.sum_ok.ensures ∙ c.if-not-sum_ok.true));
+      held = omega (arith, o.invariant.limited, c.loop-i-test.true);
     }
 
 pub returns-then-not-head_ok : goal.returns-then-not-head_ok
 returns-then-not-head_ok c =
-    let a = c.args in
-    let o = c.loop-i in record {
-      by_index = going_head a.kind a.limit a.file.now (length a.file.now / 512) o.i o.len o.invariant c.loop-i-test.true
-          (sym c.sum_ok.ensures ∙ c.if-not-sum_ok.false)
-          (sym c.head_ok.ensures ∙ c.if-not-head_ok.true);
-      held = omega arith;
+    let f = c.args.file.now in
+    let o = c.loop-i in
+    let b = block f _ o.i c.as_chunks.ensures.front c.as_chunks.ensures.front_len c.loop-i-test.true in
+    record {
+      by_index = going_head _ _ f _ o.i o.len o.invariant c.loop-i-test.true (rw b at (sym c.sum_ok.ensures ∙ c.if-not-sum_ok.false)) (rw b at (sym c.head_ok.ensures ∙ c.if-not-head_ok.true));
+      held = omega (arith, o.invariant.limited, c.loop-i-test.true);
     }
 
 pub returns-then-not-fill_ok : goal.returns-then-not-fill_ok
 returns-then-not-fill_ok c =
-    let a = c.args in
-    let o = c.loop-i in record {
-      by_index = going_fill a.kind a.limit a.file.now (length a.file.now / 512) o.i o.len o.invariant c.loop-i-test.true
-          (sym c.sum_ok.ensures ∙ c.if-not-sum_ok.false)
-          (sym c.head_ok.ensures ∙ c.if-not-head_ok.false)
-          (sym c.fill_ok.ensures ∙ c.if-not-fill_ok.true);
-      held = omega arith;
+    let f = c.args.file.now in
+    let o = c.loop-i in
+    let b = block f _ o.i c.as_chunks.ensures.front c.as_chunks.ensures.front_len c.loop-i-test.true in
+    record {
+      by_index = going_fill _ _ f _ o.i o.len o.invariant c.loop-i-test.true (rw b at (sym c.sum_ok.ensures ∙ c.if-not-sum_ok.false)) (rw b at (sym c.head_ok.ensures ∙ c.if-not-head_ok.false)) (rw b at (sym c.fill_ok.ensures ∙ c.if-not-fill_ok.true));
+      held = omega (arith, o.invariant.limited, c.loop-i-test.true);
     }
 
 pub overflow_add-len : goal.overflow_add-len
 overflow_add-len c =
-    let a = c.args in
     let o = c.loop-i in
+    let b = block c.args.file.now _ o.i c.as_chunks.ensures.front c.as_chunks.ensures.front_len c.loop-i-test.true in
     omega (
       arith,
-      good_le a.kind a.limit a.file.now (length a.file.now / 512) o.i o.len o.invariant c.loop-i-test.true c.word_at-len.result c.word_at-len.ensures.0
-          (sym c.sum_ok.ensures ∙ c.if-not-sum_ok.false)
-          (sym c.head_ok.ensures ∙ c.if-not-head_ok.false)
-          (sym c.fill_ok.ensures ∙ c.if-not-fill_ok.false),
+      o.invariant.limited,
+      good_le _ _ c.args.file.now _ o.i o.len o.invariant c.loop-i-test.true c.word_at-len.result (rw b at c.word_at-len.ensures.0)
+          (rw b at (sym c.sum_ok.ensures ∙ c.if-not-sum_ok.false)) (rw b at (sym c.head_ok.ensures ∙ c.if-not-head_ok.false)) (rw b at (sym c.fill_ok.ensures ∙ c.if-not-fill_ok.false)),
     )
 
 pub loop-i-preserved : goal.loop-i-preserved
 loop-i-preserved c =
-    let a = c.args in
     let o = c.loop-i in
-    going_more a.kind a.limit a.file.now (length a.file.now / 512) o.i o.len o.invariant c.loop-i-test.true c.word_at-len.result c.word_at-len.ensures.0
-    (sym c.sum_ok.ensures ∙ c.if-not-sum_ok.false)
-    (sym c.head_ok.ensures ∙ c.if-not-head_ok.false)
-    (sym c.fill_ok.ensures ∙ c.if-not-fill_ok.false)
+    let b = block c.args.file.now _ o.i c.as_chunks.ensures.front c.as_chunks.ensures.front_len c.loop-i-test.true in
+    going_more _ _ c.args.file.now _ o.i o.len o.invariant c.loop-i-test.true c.word_at-len.result (rw b at c.word_at-len.ensures.0)
+    (rw b at (sym c.sum_ok.ensures ∙ c.if-not-sum_ok.false)) (rw b at (sym c.head_ok.ensures ∙ c.if-not-head_ok.false)) (rw b at (sym c.fill_ok.ensures ∙ c.if-not-fill_ok.false))
 
 pub returns : goal.returns
 returns c =
-    let a = c.args in
     let o = c.loop-i in
-    record { by_index = going_end a.kind a.limit a.file.now (length a.file.now / 512) o.i o.len o.invariant (omega arith); held = going_whole a.kind a.limit a.file.now (length a.file.now / 512) o.i o.len o.invariant (omega arith) }
+    record { by_index = going_end _ _ c.args.file.now _ o.i o.len o.invariant (omega arith); held = going_whole _ _ c.args.file.now _ o.i o.len o.invariant (omega arith) }

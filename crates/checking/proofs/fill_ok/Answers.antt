@@ -1,6 +1,7 @@
 -- `fill_ok`: the fill is allowed, so the padding stands in the block.
 use Rattle.spec.specs.Outcome.{◌and◌}
-use Rattle.checking.specs.Block.{filled_le, fill_is, block_rest}
+use Rattle.spec.specs.Wire.{fill_ok}
+use Rattle.checking.specs.Block.{filled_le, padding}
 use native.Mathlib.Omega.{arith}
 use mathlib.Core.Path.{sym, ◌∙◌}
 use Rattle.checking.proofs.fill_ok.Goals as goal
@@ -12,18 +13,12 @@ pub slice_bounds-zeros-start : goal.slice_bounds-zeros-start
 slice_bounds-zeros-start c = let h = filled_le _ _ (sym c.fill_allowed.ensures ∙ c.if-fill_allowed.true) in omega (arith, h, c.word_at-n.ensures.0)
 
 pub returns-then-fill_allowed : goal.returns-then-fill_allowed
-unfolding ◌and◌
+unfolding ◌and◌ fill_ok
 returns-then-fill_allowed c =
-    let a = c.args in
+    let b = c.args.block.now in
     let n = c.word_at-n in
-    let h = filled_le _ _ (sym c.fill_allowed.ensures ∙ c.if-fill_allowed.true) in
-    c.zeros.ensures
-    ∙ sym (fill_is a.file.now a.at a.last
-    ∙ rw (← n.ensures.0, sym c.fill_allowed.ensures ∙ c.if-fill_allowed.true, block_rest a.file.now a.at n.result h))
+    c.zeros.ensures ∙ sym (rw (← n.ensures.0, sym c.fill_allowed.ensures ∙ c.if-fill_allowed.true, padding b n.result))
 
 pub returns-else-fill_allowed : goal.returns-else-fill_allowed
-unfolding ◌and◌
-returns-else-fill_allowed c =
-    let a = c.args in
-    c.if-fill_allowed.false ∙ sym (fill_is a.file.now a.at a.last
-    ∙ rw (← c.word_at-n.ensures.0, sym c.fill_allowed.ensures ∙ c.if-fill_allowed.false))
+unfolding ◌and◌ fill_ok
+returns-else-fill_allowed c = c.if-fill_allowed.false ∙ sym (rw (← c.word_at-n.ensures.0, sym c.fill_allowed.ensures ∙ c.if-fill_allowed.false))

@@ -9,4 +9,4 @@ use Rattle.checksum.proofs.total.Given as goal
 abbrev pub invariant-loop-i : goal.invariant-loop-i
 invariant-loop-i l =
     (l.even ≤ 4294967295 * l.i) × (l.odd ≤ 4294967295 * l.i)
-    × (folded ((l.even + l.odd) * 256 + plain (take (512 - l.i * 8) (drop (l.at + l.i * 8) l.file))) ≡ sum_words (take 512 (drop l.at l.file)))
+    × (folded ((l.even + l.odd) * 256 + plain (take (512 - l.i * 8) (drop (l.i * 8) l.block))) ≡ sum_words l.block)

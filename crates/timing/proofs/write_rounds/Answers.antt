@@ -9,9 +9,6 @@ use Rattle.timing.proofs.write_rounds.Goals as goal
 pub loop-i-init : goal.loop-i-init
 loop-i-init c = (refl, refl, timing_start _ _ _)
 
-pub three_from-x-requires : goal.three_from-x-requires
-three_from-x-requires c = omega (arith, c.loop-i.invariant.0, c.loop-i.invariant.2.within)
-
 pub overflow_add-last : goal.overflow_add-last
 overflow_add-last c =
     let k = c.loop-i.invariant.2.kept in
@@ -21,9 +18,6 @@ pub overflow_cast-round : goal.overflow_cast-round
 overflow_cast-round c =
     let k = c.loop-i.invariant.2.kept in
     omega (arith, c.requires, c.max-round.ensures, entry_small _ _ _ _ k c.three_from-x.result.first (search rules), left_entry_small _ _ _ _ k c.three_from-x.result.third (search rules))
-
-pub put_word_at-requires : goal.put_word_at-requires
-put_word_at-requires c = omega (arith, c.loop-i.invariant.1, c.loop-i.invariant.2.within)
 
 pub place_after-at-requires : goal.place_after-at-requires
 place_after-at-requires c = omega (arith, c.loop-i.invariant.0, c.loop-i.invariant.2.within)

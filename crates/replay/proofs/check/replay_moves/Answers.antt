@@ -13,9 +13,6 @@ loop-i-init c = (refl, λ m e h. replay_start m _ _ _ _)
 pub returns-then-len-i : goal.returns-then-len-i
 returns-then-len-i c = λ m e h. replay_short m _ _ _ _ c.requires.0 _ _ _ (c.loop-i.invariant.1 m e h) (search rules) c.if-len-i.true
 
-pub three_from-x-requires : goal.three_from-x-requires
-three_from-x-requires c = omega (arith, c.loop-i.invariant.0, c.requires.1)
-
 pub returns-in_err-map_err : goal.returns-in_err-map_err
 returns-in_err-map_err c =
     let p = err_from_is_err_and c.from_residual.result c.from_residual.ensures.1 in
