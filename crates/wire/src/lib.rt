@@ -3,12 +3,22 @@
 //     payload    the bytes of a payload, read from the file
 #![tactic(auto)]
 
+ghost use Rattle.std.specs.Prelude.{◌*◌, ◌/◌, ◌≤◌, length};
+
 pub mod payload;
 
 pub use payload::{
     byte_at, next_place, payload_ahead, payload_byte, payload_four, payload_part, payload_word,
     place_after, place_of, three_from,
 };
+
+// A payload of `len` bytes, in the file whose blocks have them.
+#[derive(Clone, Copy)]
+pub struct FiledPayload<'a> {
+    pub file: &'a [u8],
+    pub len: usize,
+    pub ghost inside: { len ≤ length file.now / 512 * 504 },
+}
 
 // Three bytes of a payload that stand one after the other, as those of a move. Contracts name each of them, so it is no array.
 #[derive(Clone, Copy, Debug, PartialEq, Eq)]

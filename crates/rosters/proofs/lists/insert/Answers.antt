@@ -1,3 +1,4 @@
+use Rattle.std.proofs.Common.{arith}
 use Rattle.rosters.specs.Lists.{put_there}
 use Rattle.rosters.proofs.lists.insert.Goals as goal
 
@@ -5,4 +6,4 @@ pub returns : goal.returns
 returns c =
     let a = c.args in
     let b = c.copy_within.ensures in
-    put_there a.part.now _ a.n a.t a.r c.requires.0 c.requires.1 b.len b.by_index.1 b.by_index.0 b.by_index.2
+    put_there a.part.now _ _ a.t a.r (omega (arith, c.requires)) (omega (arith, c.requires)) b.len b.by_index.1 b.by_index.0
