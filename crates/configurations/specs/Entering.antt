@@ -1,5 +1,5 @@
 -- Who can enter a zone that is not full, by the list of its robots, and the list afterwards: one law for each way through the code.
-use Rattle.std.specs.Prelude.{◌≡◌, refl, Bool, List, ℕ, suc, ◌+◌, ◌-◌, ◌≤◌, ◌<◌, get_or, take, drop, ◌++◌, eqb, Option, Some, None, MatchOption}
+use Rattle.std.specs.Prelude.{◌≡◌, refl, Bool, List, ℕ, suc, ◌+◌, ◌-◌, ◌≤◌, ◌<◌, get_or, eqb, Option, Some, None, MatchOption}
 use Rattle.std.specs.Bool.{then_some}
 use Rattle.std.proofs.Math.Path.{sym}
 use Rattle.std.proofs.Common.{ap, ap₂, ◌∙◌}
@@ -7,7 +7,6 @@ use Rattle.std.proofs.Math.Bool.{true, false}
 use native.Mathlib.Omega.{arith}
 use Rattle.std.proofs.Math.Decide.{ℕ_discrete}
 use Rattle.std.proofs.Math.ListN.{length}
-use lib.Seq.{length-take-le}
 use borrow.Author.Tests.{eq-eqb, ne_eqb, lt-ltb, le-ltb}
 use Rattle.spec.specs.Outcome.{◌and◌, member, index_of}
 use Rattle.spec.specs.Hall.{room}
@@ -18,7 +17,6 @@ use Rattle.theory.specs.Zones.Kinds.{KindOf, clique, ring, hall, kind?, as_hall}
 use Rattle.reaching.specs.Reach.{member_index}
 use Rattle.orders.specs.Orders.{without, put_in, entry_in, turned_by, ring_entered, clique_entered, entered}
 use Rattle.orders.specs.Orders.{same_members, list_met, clique_enters, ring_enters, hall_enters, enter_test}
-use Rattle.orders.specs.Lengths.{without_length, put_length}
 
 -- where a robot comes into the list, where it fills no clique
 unfoldable pub entry_on : ℕ → ℕ → List ℕ → ℕ

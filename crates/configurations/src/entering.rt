@@ -45,7 +45,7 @@ fn ring_entry(list: &[u8], behind: u8) -> Option<usize>
     entry_index(list, behind)
 }
 
-// "Entering needs a reachable one with to empty and the named neighbour": where a robot comes in at place j, if it can, where it fills no clique.
+// "Entering needs a reachable one with to empty and the named neighbour": at which index of the list a robot comes in at place j. It fills no clique.
 pub fn entry_at(kind: ZoneKind, list: &[u8], size: usize, j: usize, behind: u8) -> Option<usize>
     requires { (length list.now < size) × (number_of kind ≡ 3 → suc (length list.now) ≡ size → ⊥) }
     ensures { (r : ℕ) (follow : List ℕ) → EntryFound (enter_test (number_of kind) size list.now r j behind follow) (length list.now) (entry_on (number_of kind) behind list.now) result }
@@ -114,8 +114,8 @@ fn turn(list: &mut [u8], q: usize)
 
 // A robot comes into a ring at this spot, before the one at index t; where that fills the ring, it is turned so that the robot stands there.
 fn ring_enter(at: Spot, part: &mut [u8], t: usize, r: u8)
-    requires { (length part.old ≡ at.count + 1) × (t ≤ at.count) }
-    ensures { (behind : ℕ) → t ≡ entry_in behind (take at.count part.old) → part.new ≡ ring_entered at.size (take at.count part.old) r at.place behind }
+    requires { t < length part.old }
+    ensures { (behind : ℕ) → t ≡ entry_in behind (take (length part.old - 1) part.old) → part.new ≡ ring_entered at.size (take (length part.old - 1) part.old) r at.place behind }
 {
     insert(part, t, r);
     if part.len() == at.size {

@@ -1,5 +1,5 @@
 -- Lists of robots in lent bytes.
-use Rattle.std.specs.Prelude.{◌≡◌, refl, List, ◌∷◌, ◌++◌, ℕ, suc, ◌+◌, ◌-◌, ◌≤◌, ◌<◌, length, get_or, set, take, drop, reverse}
+use Rattle.std.specs.Prelude.{◌≡◌, List, [], ◌∷◌, ◌++◌, ℕ, suc, ◌+◌, ◌-◌, ◌≤◌, ◌<◌, length, get_or, set, take, drop, reverse}
 use Rattle.std.proofs.Common.{sym, ap, ◌∙◌, arith, length-set, length-drop}
 use Rattle.std.proofs.Math.Decide.{ℕ_discrete, dec_lt}
 use Rattle.std.proofs.Math.ListN.{get_or-append}
@@ -119,6 +119,24 @@ put_there p q n t r l h e under over = ext_get_or 0 _ _ (length-set q t r ∙ e 
         let f : t + (k - (t + 1)) ≡ k - 1 = omega arith in
         get_or-set_other q t k r 0 z ∙ over k 0 (omega arith) (omega arith) ∙ ap (λ (i : ℕ). get_or p i 0) f
         ∙ sym (get_or-take n p (k - 1) 0 (omega arith)) ∙ sym (put_over t r (take n p) (k - 1) (omega (arith, long)) (omega arith)) ∙ ap (λ (u : ℕ). get_or (put_in t r (take n p)) u 0) w
+
+-- one robot alone, and one beside another
+pub put_alone : (p : List ℕ) (t r : ℕ) → length p ≡ 1 → t < 1 → set p 0 r ≡ put_in t r (take (length p - 1) p)
+unfolding put_in
+put_alone [] t r e h = absurd (omega (arith, e))
+put_alone (x ∷ []) t r e h = let z : t ≡ 0 = omega arith in rw z
+put_alone (x ∷ y ∷ p) t r e h = absurd (omega (arith, e))
+
+pub put_pair : (p : List ℕ) (t r : ℕ) → length p ≡ 2 → t < 2 → set (set p (1 - t) (get_or p 0 0)) t r ≡ put_in t r (take (length p - 1) p)
+unfolding put_in
+put_pair [] t r e h = absurd (omega (arith, e))
+put_pair (x ∷ []) t r e h = absurd (omega (arith, e))
+put_pair (x ∷ y ∷ []) t r e h = at (ℕ_discrete t 0)
+  where
+    at : Dec (t ≡ 0) → set (set (x ∷ y ∷ []) (1 - t) x) t r ≡ take t (x ∷ []) ++ (r ∷ drop t (x ∷ []))
+    at (yes z) = rw z
+    at (no z) = let o : t ≡ 1 = omega arith in rw o
+put_pair (x ∷ y ∷ z ∷ p) t r e h = absurd (omega (arith, e))
 
 -- ---- a list turned
 

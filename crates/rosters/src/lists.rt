@@ -18,12 +18,21 @@ pub fn remove(part: &mut [u8], t: usize)
     part.copy_within(t + 1..n, t);
 }
 
-// Puts robot r before the one at index t; the part's last byte is the room for it.
+// Puts robot r before the one at index t; the part's last byte is the room for it. A list of none or one needs no loop, and the one no branch.
 pub fn insert(part: &mut [u8], t: usize, r: u8)
     requires { t < length part.old }
     ensures { part.new ≡ put_in t r (take (length part.old - 1) part.old) }
 {
     let n = part.len() - 1;
+    if n == 0 {
+        part[0] = r;
+        return;
+    }
+    if n == 1 {
+        part[1 - t] = part[0];
+        part[t] = r;
+        return;
+    }
     part.copy_within(t..n, t + 1);
     part[t] = r;
 }

@@ -20,7 +20,7 @@ overflow_add-last c =
 pub overflow_cast-round : goal.overflow_cast-round
 overflow_cast-round c =
     let k = c.loop-i.invariant.2.kept in
-    omega (arith, c.requires, c.max-round.ensures, entry_small _ _ _ _ k c.three_from-x.result.first (search rules), left_entry_small _ _ _ _ k c.three_from-x.result.third (search rules))
+    omega (arith, c.max-round.ensures, entry_small _ _ _ _ k c.three_from-x.result.first (search rules), left_entry_small _ _ _ _ k c.three_from-x.result.third (search rules))
 
 pub put_word_at-requires : goal.put_word_at-requires
 put_word_at-requires c = omega (arith, c.loop-i.invariant.1, c.loop-i.invariant.2.within)

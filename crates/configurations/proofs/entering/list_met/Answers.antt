@@ -1,4 +1,4 @@
-use Rattle.std.proofs.Common.{◌≡◌, ◌∙◌, ◌+◌, ◌-◌, ℕ, length, take, ap, arith}
+use Rattle.std.proofs.Common.{◌≡◌, ◌∙◌, ◌-◌, ℕ, length, take, ap, arith}
 use Rattle.configurations.specs.Entering.{list_other, list_rest}
 use Rattle.configurations.proofs.entering.list_met.Goals as goal
 

@@ -1,4 +1,4 @@
-use Rattle.std.proofs.Common.{◌≡◌, ◌∙◌, sym, ap, ap₂, ℕ, suc, ◌+◌, take, length, length-take-le, arith}
+use Rattle.std.proofs.Common.{◌≡◌, ◌∙◌, ap, ℕ, suc, ◌+◌, take, length, length-take-le, arith}
 use Rattle.numbering.specs.Kind.{number_of}
 use Rattle.walking.specs.Held.{held_part}
 use Rattle.testing.specs.Steps.{extra_zero, extra_some}

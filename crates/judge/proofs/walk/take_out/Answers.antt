@@ -1,4 +1,3 @@
-use borrow.Author.Rules.{rules}
 use Rattle.std.proofs.Common.{◌≡◌, ◌∙◌, sym, ap, List, ℕ, ◌+◌, ◌-◌, get_or, set, length, take, drop, length-drop, length-take-le, arith}
 use Rattle.orders.specs.Orders.{without}
 use Rattle.orders.specs.Lengths.{without_length}
