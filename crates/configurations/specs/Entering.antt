@@ -1,5 +1,5 @@
 -- Who can enter a zone that is not full, by the list of its robots, and the list afterwards: one law for each way through the code.
-use Rattle.std.specs.Prelude.{◌≡◌, refl, Bool, List, ℕ, suc, ◌+◌, ◌-◌, ◌≤◌, ◌<◌, get_or, take, drop, ◌++◌, eqb, Option, Some, None, MatchOption}
+use Rattle.std.specs.Prelude.{◌≡◌, refl, Bool, List, ℕ, suc, ◌+◌, ◌-◌, ◌≤◌, ◌<◌, get_or, eqb, Option, Some, None, MatchOption}
 use Rattle.std.specs.Bool.{then_some}
 use Rattle.std.proofs.Math.Path.{sym}
 use Rattle.std.proofs.Common.{ap, ap₂, ◌∙◌}
@@ -7,7 +7,6 @@ use Rattle.std.proofs.Math.Bool.{true, false}
 use native.Mathlib.Omega.{arith}
 use Rattle.std.proofs.Math.Decide.{ℕ_discrete}
 use Rattle.std.proofs.Math.ListN.{length}
-use lib.Seq.{length-take-le}
 use borrow.Author.Tests.{eq-eqb, ne_eqb, lt-ltb, le-ltb}
 use Rattle.spec.specs.Outcome.{◌and◌, member, index_of}
 use Rattle.spec.specs.Hall.{room}
@@ -18,8 +17,6 @@ use Rattle.theory.specs.Zones.Kinds.{KindOf, clique, ring, hall, kind?, as_hall}
 use Rattle.reaching.specs.Reach.{member_index}
 use Rattle.orders.specs.Orders.{without, put_in, entry_in, turned_by, ring_entered, clique_entered, entered}
 use Rattle.orders.specs.Orders.{same_members, list_met, clique_enters, ring_enters, hall_enters, enter_test}
-use Rattle.orders.specs.Lengths.{without_length, put_length}
-use Rattle.rosters.specs.Lists.{Rewritten, put_as, turn_first}
 
 -- where a robot comes into the list, where it fills no clique
 unfoldable pub entry_on : ℕ → ℕ → List ℕ → ℕ
@@ -147,14 +144,6 @@ module _ (l : List ℕ) (behind : ℕ) where
 
 -- ---- filling a clique
 
--- the follow list from which place j was taken out
-pub list_others : (list o : List ℕ) (n j : ℕ) → length list ≡ n + 1 → j ≤ n → Rewritten list (n + 1) (without j (take (n + 1) list)) o → take n o ≡ without j list
-list_others list o n j e h b =
-    let whole : take (n + 1) list ≡ list = lib.Seq.take_all (n + 1) list (omega arith) in
-    let rest : take (length (without j list)) o ≡ without j list = rw whole at b.here in
-    let long : n ≡ length (without j list) = omega (arith, without_length j list (omega arith)) in
-    ap (λ (k : ℕ). take k o) long ∙ rest
-
 module _ (l : List ℕ) (r j : ℕ) (list : List ℕ) where
   -- the follow list has another at place j
   pub list_other : (get_or list j 0 ≡ r → ⊥) → false ≡ list_met l r j list
@@ -205,9 +194,9 @@ unfolding entry_in
 entry_none behind l h i = rw (ne_eqb _ _ h, entry_in) (omega arith)
 
 -- how far a filled ring is turned: past its end, or not
-pub turn_past : (n t j : ℕ) → j < n → t < j → n + t - j ≡ wrap n (n + t - j)
+pub turn_past : (n t j : ℕ) → j < n → t < j → n - (j - t) ≡ wrap n (n + t - j)
 unfolding wrap
-turn_past n t j h b = sym (rw (lt-ltb (n + t - j) n (omega arith), wrap))
+turn_past n t j h b = sym (rw (lt-ltb (n + t - j) n (omega arith), wrap) (omega arith))
 
 pub turn_within : (n t j : ℕ) → j < n → j ≤ t → t - j ≡ wrap n (n + t - j)
 unfolding wrap
@@ -220,7 +209,7 @@ module _ (l : List ℕ) (n r : ℕ) where
   ring_free j behind t h i = sym (rw (ne_eqb (suc (length l)) n h, ring_entered, i))
 
   -- one that is filled
-  ring_full : (j behind t q : ℕ) → suc (length l) ≡ n → t ≡ entry_in behind l → q ≡ wrap n (n + t - j) → turned_by q (put_in t r l) ≡ ring_entered n l r j behind
+  pub ring_full : (j behind t q : ℕ) → suc (length l) ≡ n → t ≡ entry_in behind l → q ≡ wrap n (n + t - j) → turned_by q (put_in t r l) ≡ ring_entered n l r j behind
   unfolding ring_entered
   ring_full j behind t q h i w =
       sym (rw (eq-eqb (suc (length l)) n h, ring_entered) (ap₂ (λ (x y : ℕ). turned_by x (put_in y r l)) (ap (λ (k : ℕ). wrap n (n + k - j)) (sym i) ∙ sym w) (sym i)))
@@ -233,26 +222,6 @@ module _ (l : List ℕ) (n r : ℕ) where
   pub clique_more : (list : List ℕ) → (suc (length l) ≡ n → ⊥) → put_in (length l) r l ≡ clique_entered n l r list
   unfolding clique_entered
   clique_more list h = sym (rw (ne_eqb (suc (length l)) n h, clique_entered))
-
--- a robot put in, then the first turned: the list of a filled ring
-pub ring_filled : (p s x : List ℕ) (n size r j behind t q : ℕ) → size ≤ length p → n + 1 ≡ size → t ≡ entry_in behind (take n p) → q ≡ wrap size (size + t - j) → q ≤ size
-    → Rewritten p (n + 1) (put_in t r (take n p)) s → x ≡ drop q (take size s) ++ take q (take size s) → Rewritten p size (ring_entered size (take n p) r j behind) (x ++ drop size s)
-ring_filled p s x n size r j behind t q h e i w b a d = put_as p size (turned_by q (put_in t r (take n p))) (ring_entered size (take n p) r j behind) (x ++ drop size s) list both
-  where
-    long : length (take n p) ≡ n
-    long = length-take-le n p (omega arith)
-
-    list : turned_by q (put_in t r (take n p)) ≡ ring_entered size (take n p) r j behind
-    list = ring_full (take n p) size r j behind t q (omega (arith, long)) i w
-
-    stored : take size s ≡ put_in t r (take n p)
-    stored = let m : size ≡ length (put_in t r (take n p)) = omega (arith, put_length t r (take n p), long) in ap (λ (k : ℕ). take k s) m ∙ a.here
-
-    second : Rewritten s size (turned_by q (put_in t r (take n p))) (x ++ drop size s)
-    second = put_as s size (turned_by q (take size s)) (turned_by q (put_in t r (take n p))) (x ++ drop size s) (ap (turned_by q) stored) (turn_first s x size q (omega (arith, a.long)) b d)
-
-    both : Rewritten p size (turned_by q (put_in t r (take n p))) (x ++ drop size s)
-    both = record { long = second.long ∙ a.long; here = second.here; past = λ k d. second.past k d ∙ a.past k (omega arith) }
 
 -- a robot put in where it fills no clique
 pub inserted : (kind size : ℕ) (l : List ℕ) (r j behind : ℕ) (list : List ℕ) (t : ℕ) → (kind ≡ 4 → ⊥) → (kind ≡ 3 → suc (length l) ≡ size → ⊥) → t ≡ entry_on kind behind l

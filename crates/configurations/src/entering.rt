@@ -1,15 +1,15 @@
-// Who can enter a zone that is not full, by the list of its robots, and the list afterwards: the first n of a part, which has room for one more.
+// Who can enter a zone that is not full, by the list of its robots, and the list afterwards: in a part that has room for one more.
 ghost use Rattle.std.specs.Prelude.{◌≡◌, List, ℕ, suc, ◌+◌, ◌-◌, ◌*◌, ◌/◌, ◌≤◌, ◌<◌, length, take};
 ghost use Rattle.spec.specs.Ring.{wrap};
 ghost use Rattle.numbering.specs.Kind.{number_of};
-ghost use Rattle.orders.specs.Orders.{entry_in, ring_entered, entered};
+ghost use Rattle.orders.specs.Orders.{entry_in, turned_by, ring_entered, entered};
 ghost use Rattle.orders.specs.Orders.{list_met, clique_enters, ring_enters, hall_enters, enter_test};
 ghost use Rattle.walking.specs.Held.{held_part};
-ghost use Rattle.rosters.specs.Lists.{Rewritten};
 ghost use Rattle.configurations.specs.Entering.{EntryIndex, EntryFound, entry_on};
 
 use numbering::{Robot, ZoneKind};
 use reaching::reach::has_room;
+use rosters::Spot;
 use rosters::finding::index_in;
 use rosters::lists::{insert, remove};
 use rosters::members::same_members;
@@ -45,7 +45,7 @@ fn ring_entry(list: &[u8], behind: u8) -> Option<usize>
     entry_index(list, behind)
 }
 
-// "Entering needs a reachable one with to empty and the named neighbour": where a robot comes in at place j, if it can, where it fills no clique.
+// "Entering needs a reachable one with to empty and the named neighbour": at which index of the list a robot comes in at place j. It fills no clique.
 pub fn entry_at(kind: ZoneKind, list: &[u8], size: usize, j: usize, behind: u8) -> Option<usize>
     requires { (length list.now < size) × (number_of kind ≡ 3 → suc (length list.now) ≡ size → ⊥) }
     ensures { (r : ℕ) (follow : List ℕ) → EntryFound (enter_test (number_of kind) size list.now r j behind follow) (length list.now) (entry_on (number_of kind) behind list.now) result }
@@ -65,9 +65,8 @@ fn list_met(list: &[u8], r: u8, j: usize, follow: &mut [u8]) -> bool
     if follow[j] != r {
         return false;
     }
-    let n = list.len();
-    remove(follow, n + 1, j);
-    same_members(list, &follow[..n])
+    remove(follow, j);
+    same_members(list, &follow[..list.len()])
 }
 
 // The same of the follow list that stands in the payload from `from` on; it is copied into the lent bytes.
@@ -79,72 +78,59 @@ fn list_met_in(file: &[u8], from: usize, list: &[u8], r: u8, j: usize, follow: &
     list_met(list, r, j, follow)
 }
 
-// Can robot r fill a clique at place j, as the follow list says that stands in the payload from `from` on?
-pub fn can_fill(
-    file: &[u8],
-    from: usize,
-    list: &[u8],
-    size: usize,
-    r: Robot,
-    j: usize,
-    behind: u8,
-) -> bool
-    requires { (length list.now + 1 ≡ size) × (size ≤ 128) × (j < size) × (from + size ≤ length file.now / 512 * 504) }
-    ensures { (len : ℕ) → len ≤ length file.now / 512 * 504 → from + size ≤ len → result ≡ clique_enters size list.now r.0 j behind (held_part file.now len from size) }
+// Can robot r fill a clique at this spot, as the follow list says that stands in the payload from `from` on?
+pub fn can_fill(file: &[u8], from: usize, at: Spot, list: &[u8], r: Robot, behind: u8) -> bool
+    requires { (length list.now + 1 ≡ at.size) × (at.size ≤ 128) × (from + at.size ≤ length file.now / 512 * 504) }
+    ensures { (len : ℕ) → len ≤ length file.now / 512 * 504 → from + at.size ≤ len → result ≡ clique_enters at.size list.now r.0 at.place behind (held_part file.now len from at.size) }
 {
     if behind != 255 {
         return false;
     }
     let mut follow = [0u8; 128];
-    list_met_in(file, from, list, r.0, j, &mut follow[..size])
+    list_met_in(file, from, list, r.0, at.place, &mut follow[..at.size])
 }
 
 // How far a filled ring of n places is turned, where the robot at index t is to come to place j.
 fn turn_count(n: usize, t: usize, j: usize) -> usize
-    requires { (n ≤ 128) × (t ≤ n) × (j < n) }
+    requires { (t ≤ n) × (j < n) }
     ensures { (result ≡ wrap n (n + t - j)) × (result ≤ n) }
 {
     if t < j {
-        return n + t - j;
+        return n - (j - t);
     }
     t - j
 }
 
-// A robot comes into a ring before the one at index t, at place j; where that fills the ring, it is turned so that the robot stands there.
-fn ring_enter(part: &mut [u8], n: usize, size: usize, t: usize, r: u8, j: usize)
-    requires { (n < size) × (size ≤ length part.old) × (size ≤ 128) × (j < size) × (t ≤ n) }
-    ensures { (behind : ℕ) → t ≡ entry_in behind (take n part.old) → Rewritten part.old size (ring_entered size (take n part.old) r j behind) part.new }
+// Turns a list: its element q comes first. `rotate_left` clears a room of 4,096 bytes at each call.
+fn turn(list: &mut [u8], q: usize)
+    requires { q ≤ length list.old }
+    ensures { list.new ≡ turned_by q list.old }
 {
-    insert(part, n, t, r);
-    if n + 1 == size {
-        let q = turn_count(size, t, j);
-        part[..size].rotate_left(q);
+    let (front, back) = list.split_at_mut(q);
+    front.reverse();
+    back.reverse();
+    list.reverse();
+}
+
+// A robot comes into a ring at this spot, before the one at index t; where that fills the ring, it is turned so that the robot stands there.
+fn ring_enter(at: Spot, part: &mut [u8], t: usize, r: u8)
+    requires { t < length part.old }
+    ensures { (behind : ℕ) → t ≡ entry_in behind (take (length part.old - 1) part.old) → part.new ≡ ring_entered at.size (take (length part.old - 1) part.old) r at.place behind }
+{
+    insert(part, t, r);
+    if part.len() == at.size {
+        let q = turn_count(at.size, t, at.place);
+        turn(part, q);
     }
 }
 
-// Robot r comes in before the one at index t, at place j, and fills no clique: the list is the one of the configuration after the step.
-pub fn enter_at(
-    kind: ZoneKind,
-    part: &mut [u8],
-    n: usize,
-    size: usize,
-    t: usize,
-    r: Robot,
-    j: usize,
-)
-    requires { (n < size) × (size ≤ length part.old) × (size ≤ 128) × (j < size) × (t ≤ n) × (number_of kind ≡ 3 → suc n ≡ size → ⊥) }
-    ensures { (behind : ℕ) (list : List ℕ) → t ≡ entry_on (number_of kind) behind (take n part.old) → Rewritten part.old size (entered (number_of kind) size (take n part.old) r.0 j behind list) part.new }
+// Robot r comes in at this spot, before the one at index t, and fills no clique: the list is the one of the configuration after the step.
+pub fn enter_at(at: Spot, part: &mut [u8], t: usize, r: Robot)
+    requires { (length part.old ≡ at.count + 1) × (t ≤ at.count) × (number_of at.kind ≡ 3 → suc at.count ≡ at.size → ⊥) }
+    ensures { (behind : ℕ) (list : List ℕ) → t ≡ entry_on (number_of at.kind) behind (take at.count part.old) → part.new ≡ entered (number_of at.kind) at.size (take at.count part.old) r.0 at.place behind list }
 {
-    match kind {
-        ZoneKind::Ring => ring_enter(part, n, size, t, r.0, j),
-        _ => insert(part, n, t, r.0),
+    match at.kind {
+        ZoneKind::Ring => ring_enter(at, part, t, r.0),
+        _ => insert(part, t, r.0),
     }
-}
-
-// Robot r fills a clique: all stand as the follow list says.
-pub fn fill_clique(file: &[u8], from: usize, part: &mut [u8], size: usize)
-    requires { (size ≤ length part.old) × (from + size ≤ length file.now / 512 * 504) }
-    ensures { Rewritten part.old size (held_part file.now (from + size) from size) part.new }
-{
-    copy_list(file, from, &mut part[..size]);
 }

@@ -56,12 +56,11 @@ fn draw_move(d: Drawn, state: &State, map: &MapTables, x: Three, out: &mut [u8])
 // Lays the steps of the list's first `count` moves, made from a state, after the two bytes of the count.
 pub fn draw_moves(
     file: &[u8],
-    count: usize,
+    count: u16,
     map: &MapTables,
     mut state: State,
     out: &mut [u8],
 ) -> Drawn
-    requires { count < 65536 }
     ensures { (m : Map) → MapHeld map.now m → Accepted m → EndsOn m (file_bytes file.now) count → AllDrawn m (file_bytes file.now) count state out.old result out.new }
 {
     let mut d = Drawn { steps: 0, bytes: 2 };

@@ -76,7 +76,7 @@ fn word(file: &[u8], m: usize, o: usize) -> Option<usize>
     ensures inside { IfSome result (λ _. o + 1 < m) }
 {
     if o < m && o + 1 < m {
-        return Some(wire::payload_word(file, o));
+        return Some(wire::payload_word(file, o) as usize);
     }
     None
 }

@@ -1,8 +1,9 @@
 -- A zone's goals, by the list of its robots: one law for each way through the code.
-use Rattle.std.specs.Prelude.{◌≡◌, refl, true, false, List, [], ◌∷◌, ◌++◌, ℕ, suc, ◌<◌, length, take, drop, get_or, eqb}
-use Rattle.std.proofs.Common.{sym, ap, ap₂, ◌∙◌, arith, take_all, drop_of_length-le, eq-eqb, ne_eqb}
+use Rattle.std.specs.Prelude.{◌≡◌, refl, Bool, true, false, List, [], ◌∷◌, ◌++◌, ℕ, suc, ◌+◌, ◌-◌, ◌<◌, length, take, drop, get_or, eqb}
+use Rattle.std.proofs.Common.{sym, ap, ap₂, ◌∙◌, arith, take_all, drop_of_length-le, eq-eqb, ne_eqb, length-append, length-take, length-drop, length-take-le}
+use Rattle.std.proofs.lemmas.List.{take-append-drop}
 use Rattle.std.proofs.Math.Decide.{ℕ_discrete}
-use Rattle.spec.specs.Outcome.{index_of, same_list}
+use Rattle.spec.specs.Outcome.{◌and◌, index_of, same_list}
 use Rattle.spec.specs.Ring.{turned}
 use Rattle.theory.specs.Zones.Hall.Order.{IsHall}
 use Rattle.theory.specs.Zones.Kinds.{KindOf, clique, ring, hall, kind?, as_hall}
@@ -62,8 +63,59 @@ turned_none x (y ∷ l) o z e h = sym (ap (same_list (x ∷ l)) same ∙ other o
         at (yes e) = absurd (omega (arith, rw (eq-eqb x y e, index_of) at h))
         at (no d) = rw (ne_eqb x y d, same_list)
 
--- robots are compared with the goals read from the first of them on
-pub turned_at : (x : ℕ) (l o g : List ℕ) (t : ℕ) → 0 < length l → x ≡ get_or l 0 0 → t ≡ index_of x o → g ≡ drop t o ++ take t o → same_list l g ≡ turned l o
+-- lists that are not as long are not the same
+same_long : (l o : List ℕ) → (length l ≡ length o → ⊥) → same_list l o ≡ false
+unfolding same_list
+same_long [] [] h = absurd (h refl)
+same_long [] (y ∷ o) h = refl
+same_long (x ∷ l) [] h = refl
+same_long (x ∷ l) (y ∷ o) h = at (eqb x y) (same_long l o (λ e. h (ap suc e)))
+  where
+    at : (b : Bool) → same_list l o ≡ false → ◌≡◌ {A = Bool} (elim b [ true ↦ same_list l o | false ↦ false ]) false
+    at true r = r
+    at false r = refl
+
+-- two parts are compared one after the other
+same_parts : (a b x y : List ℕ) → length a ≡ length x → same_list (a ++ b) (x ++ y) ≡ (same_list a x and same_list b y)
+unfolding same_list ◌and◌
+same_parts [] b [] y h = refl
+same_parts [] b (x ∷ xs) y h = absurd (omega (arith, h))
+same_parts (a ∷ ls) b [] y h = absurd (omega (arith, h))
+same_parts (a ∷ ls) b (x ∷ xs) y h = at (eqb a x) (same_parts ls b xs y (omega (arith, h)))
+  where
+    at : (t : Bool) → same_list (ls ++ b) (xs ++ y) ≡ (same_list ls xs and same_list b y)
+        → ◌≡◌ {A = Bool} (elim t [ true ↦ same_list (ls ++ b) (xs ++ y) | false ↦ false ]) (elim t [ true ↦ same_list ls xs | false ↦ false ] and same_list b y)
+    at true r = r
+    at false r = refl
+
+-- not as many
+pub turned_other : (l o : List ℕ) → (length l ≡ length o → ⊥) → false ≡ turned l o
 unfolding turned
-turned_at x [] o g t z e i h = absurd (omega arith)
-turned_at x (y ∷ l) o g t z e i h = ap (same_list (y ∷ l)) (h ∙ ap (λ (k : ℕ). drop k o ++ take k o) (i ∙ ap (λ (x : ℕ). index_of x o) e))
+turned_other [] o h = sym (same_long [] o h)
+turned_other (x ∷ l) o h =
+    sym (same_long (x ∷ l) (drop (index_of x o) o ++ take (index_of x o) o) (λ e. h (e ∙ length-append (drop (index_of x o) o) (take (index_of x o) o) ∙ omega (arith, length-drop (index_of x o) o, length-take (index_of x o) o))))
+
+module _ (x : ℕ) (l o : List ℕ) (t : ℕ) (z : 0 < length l) (e : x ≡ get_or l 0 0) (i : t ≡ index_of x o) (m : length l ≡ length o) where
+  -- robots are compared with the goals read from the first of them on
+  turned_at : same_list l (drop t o ++ take t o) ≡ turned l o
+  unfolding turned
+  turned_at = go l e z
+    where
+      go : (l : List ℕ) → x ≡ get_or l 0 0 → 0 < length l → same_list l (drop t o ++ take t o) ≡ turned l o
+      go [] e z = absurd (omega (arith, z))
+      go (y ∷ l) e z = ap (λ (k : ℕ). same_list (y ∷ l) (drop k o ++ take k o)) (i ∙ ap (λ (x : ℕ). index_of x o) e)
+
+  -- in two parts
+  by_parts : (same_list (take (length o - t) l) (drop t o) and same_list (drop (length o - t) l) (take t o)) ≡ turned l o
+  by_parts =
+      sym (same_parts (take (length o - t) l) (drop (length o - t) l) (drop t o) (take t o) (length-take-le (length o - t) l (omega (arith, m)) ∙ sym (length-drop t o)))
+      ∙ ap (λ (k : List ℕ). same_list k (drop t o ++ take t o)) (take-append-drop (length o - t) l) ∙ turned_at
+
+  -- the first are the same, and the others decide; or they are not
+  pub turned_then : true ≡ same_list (take (length o - t) l) (drop t o) → same_list (drop (length o - t) l) (take t o) ≡ turned l o
+  unfolding ◌and◌
+  turned_then h = rw (← h) at by_parts
+
+  pub turned_not : false ≡ same_list (take (length o - t) l) (drop t o) → false ≡ turned l o
+  unfolding ◌and◌
+  turned_not h = rw (← h) at by_parts

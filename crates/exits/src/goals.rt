@@ -9,23 +9,26 @@ use numbering::ZoneKind;
 use rosters::finding::index_in;
 use rosters::members::same_members;
 
-// Are the goals' robots those of a ring, turned? The goals are turned in their bytes.
-fn is_turned(list: &[u8], goal: &mut [u8]) -> bool
-    ensures { result ≡ turned list.now goal.old }
+// Are the goals' robots those of a ring, turned: read from the ring's first on, and then from their own first on?
+fn is_turned(list: &[u8], goal: &[u8]) -> bool
+    ensures { result ≡ turned list.now goal.now }
 {
+    if list.len() != goal.len() {
+        return false;
+    }
     let Some(first) = list.first() else {
         return goal.is_empty();
     };
     let Some(t) = index_in(goal, *first) else {
         return false;
     };
-    goal.rotate_left(t);
-    same_cells(list, goal)
+    let (front, back) = list.split_at(goal.len() - t);
+    same_cells(front, &goal[t..]) && same_cells(back, &goal[..t])
 }
 
-// Are the goals, whose robots in order are `goal`, in the configuration? A ring's are turned in their bytes.
-pub fn can_end(kind: ZoneKind, list: &[u8], size: usize, goal: &mut [u8]) -> bool
-    ensures { result ≡ end_test (number_of kind) size list.now goal.old }
+// Are the goals, whose robots in order are `goal`, in the configuration?
+pub fn can_end(kind: ZoneKind, list: &[u8], size: usize, goal: &[u8]) -> bool
+    ensures { result ≡ end_test (number_of kind) size list.now goal.now }
 {
     if list.len() == size {
         return same_cells(list, goal);

@@ -1,4 +1,4 @@
-// Who can leave a zone, by the list of its robots, the first n of a part.
+// Who can leave a zone, by the list of its robots, the first of a part.
 ghost use Rattle.std.specs.Prelude.{◌≡◌, true, false, ◌≤◌, ◌<◌, length, take};
 ghost use Rattle.spec.specs.ZoneKind.{by_kind};
 ghost use Rattle.numbering.specs.Kind.{number_of};
@@ -7,6 +7,7 @@ ghost use Rattle.exits.specs.Leaving.{LeaveFound, lets_out, goes};
 
 use numbering::{Robot, ZoneKind};
 use reaching::reach::has_room;
+use rosters::Spot;
 use rosters::finding::index_in;
 
 // Is this the kind of a clique or a ring, which pins its robots to their places only where it is full?
@@ -23,30 +24,23 @@ fn lets_out(n: usize, size: usize, x: Robot, r: Robot) -> bool
     n != size || x == r
 }
 
-// Can robot r, at index t of n, leave at place j, where x is listed? Both answers are worked out, and one is chosen.
-fn can_go(kind: ZoneKind, n: usize, size: usize, x: Robot, r: Robot, t: usize, j: usize) -> bool
-    requires { t < n }
-    ensures { result ≡ goes (number_of kind) n size x.0 r.0 t j }
+// Can robot r, at index t of the list, leave at this spot, where x is listed? Both answers are worked out, and one is chosen.
+fn can_go(at: Spot, x: Robot, r: Robot, t: usize) -> bool
+    requires { t < at.count }
+    ensures { result ≡ goes (number_of at.kind) at.count at.size x.0 r.0 t at.place }
 {
-    let room = has_room(size, j, t, n - t - 1);
-    let free = lets_out(n, size, x, r);
-    if is_pinned(kind) { free } else { room }
+    let room = has_room(at.size, at.place, t, at.count - t - 1);
+    let free = lets_out(at.count, at.size, x, r);
+    if is_pinned(at.kind) { free } else { room }
 }
 
-// "Leaving needs a reachable arrangement with the cart at from": where robot r, that is to leave at place j, stands in the list, if it can leave.
-// The part comes with a count, not cut to the list: place j's byte is read even past the list's end, so that nothing branches on it.
-pub fn leave_index(
-    kind: ZoneKind,
-    part: &[u8],
-    n: usize,
-    size: usize,
-    r: Robot,
-    j: usize,
-) -> Option<usize>
-    requires { (n ≤ size) × (size ≤ length part.now) × (j < size) }
-    ensures { LeaveFound (leave_test (number_of kind) size (take n part.now) r.0 j) r.0 n (take n part.now) result }
+// "Leaving needs a reachable arrangement with the cart at from": where robot r, that is to leave at this spot, stands in the list, if it can leave.
+// The part is not cut to the list: the place's byte is read even past the list's end, so that nothing branches on it.
+pub fn leave_index(at: Spot, part: &[u8], r: Robot) -> Option<usize>
+    requires { at.size ≤ length part.now }
+    ensures { LeaveFound (leave_test (number_of at.kind) at.size (take at.count part.now) r.0 at.place) r.0 at.count (take at.count part.now) result }
 {
-    let t = index_in(&part[..n], r.0)?;
-    let x = Robot(part[j]);
-    can_go(kind, n, size, x, r, t, j).then_some(t)
+    let t = index_in(&part[..at.count], r.0)?;
+    let x = Robot(part[at.place]);
+    can_go(at, x, r, t).then_some(t)
 }

@@ -16,8 +16,7 @@ use Rattle.walking.specs.Tables.{vertices_in}
 use Rattle.lineup.specs.Line.{Lined}
 use Rattle.orders.specs.Packed.{holds_order}
 use Rattle.walking.specs.Given.{Given, HasZone}
-use Rattle.rosters.specs.Lists.{Rewritten, wider}
-use Rattle.testing.specs.Held.{list_in, Held, Changed, changed_rest, rest_of, size_is, list_here, list_away, still_few}
+use Rattle.testing.specs.Held.{list_in, Held, Changed, changed_part, size_is, list_here, list_away, still_few}
 use Rattle.judge.specs.Making.{Listed}
 
 -- ---- one zone's list
@@ -43,26 +42,19 @@ module _ (first size listed : List ℕ) (z : ℕ) (has : HasZone first size list
   pub lined_small : n ≤ 128
   lined_small = omega (arith, lined_few, has.long, long)
 
-  module _ (fits : n ≤ length rs) where
-    -- as long as it is counted
-    lined_count : length (take n rs) ≡ n
-    lined_count = length-take-le n rs fits
+  module _ (cells : List ℕ) (room : length cells ≡ length listed) where
+    -- they fit into the row of cells
+    pub lined_fits : get_or first z 0 + n ≤ length cells
+    lined_fits = omega (arith, lined_few, room, has.fits)
 
-    module _ (cells : List ℕ) (room : length cells ≡ length listed) (w : ℕ) (row : length cells ≡ w) where
-      -- it fits into the rest of the row
-      pub lined_fits : length (take n rs) ≤ length (take (w - get_or first z 0) (drop (get_or first z 0) cells))
-      lined_fits = omega (arith, lined_count, lined_few, room, has.fits, ap length (rest_of (get_or first z 0) w cells row), length-drop (get_or first z 0) cells)
-
-      -- the zone's list is written to the rest of the row that was lent
-      pub filled_zone : (counts rest : List ℕ) → Rewritten (take (w - get_or first z 0) (drop (get_or first z 0) cells)) (length (take n rs)) (take n rs) rest
-          → Listed first size counts cells z robots (set counts z n) (put_mid (get_or first z 0) (w - get_or first z 0) cells rest)
-      filled_zone counts rest r =
-          let a : ℕ = get_or first z 0 in
-          let wide : Rewritten (take (w - a) (drop a cells)) (get_or size z 0) (take n rs) rest = wider _ (omega (arith, lined_count, lined_few)) r in
-          rw (← lined_order) (record {
-            change = changed_rest cells a (get_or size z 0) w (λ (x : List ℕ). take n rs) rest row (omega (arith, room, row, has.fits)) wide;
-            count = ap (set counts z) (sym lined_count);
-          })
+    -- the zone's list is written there
+    pub filled_zone : n ≤ length rs → (counts part : List ℕ) (k : ℕ) → k ≡ n → part ≡ take n rs → Listed first size counts cells z robots (set counts z n) (put_mid (get_or first z 0) k cells part)
+    filled_zone fits counts part k i e =
+        let c : length (take n rs) ≡ n = length-take-le n rs fits in
+        rw (← lined_order) (record {
+          change = changed_part cells (get_or first z 0) (get_or size z 0) k (take n rs) part (omega (arith, lined_fits, i)) (omega (arith, lined_few, i)) (c ∙ sym i) e;
+          count = ap (set counts z) (sym c);
+        })
 
 -- ---- every zone's list
 

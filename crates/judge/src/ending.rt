@@ -19,7 +19,6 @@ use layout::MapTables;
 use lineup::line::line_up;
 use motion::State;
 use numbering::Zone;
-use rosters::lists::store;
 use testing::Lists;
 
 // Writes zone z's list: its robots in order, and their number.
@@ -31,7 +30,7 @@ fn fill_zone(state: &State, map: &MapTables, z: Zone, lists: &mut Lists)
     let mut robots = [0u8; 128];
     let mut places = [0u8; 128];
     let n = line_up(state, map.vertices_of(z), &mut robots, &mut places);
-    store(&mut lists.cells[a..], &robots[..n]);
+    lists.cells[a..a + n].copy_from_slice(&robots[..n]);
     lists.counts[z.0 as usize] = n as u8;
 }
 
@@ -60,7 +59,7 @@ fn ends_zone(map: &MapTables, z: Zone, lists: &Lists, goals: &State) -> bool
     let mut robots = [0u8; 128];
     let mut places = [0u8; 128];
     let n = line_up(goals, map.vertices_of(z), &mut robots, &mut places);
-    can_end(map.kind_of(z), list, map.size_of(z), &mut robots[..n])
+    can_end(map.kind_of(z), list, map.size_of(z), &robots[..n])
 }
 
 // The lowest zone that can't be brought to its goals.

@@ -1,5 +1,5 @@
 // A whole plan judged on the lists: the count, the steps, the surplus, the goals.
-ghost use Rattle.std.specs.Prelude.{◌≡◌, ◌*◌, ◌/◌, ◌≤◌, length, take};
+ghost use Rattle.std.specs.Prelude.{◌≡◌, length, take};
 ghost use Rattle.spec.specs.Layout.{Map, Placing};
 ghost use Rattle.spec.specs.Terms.{zone_count};
 ghost use Rattle.theory.specs.Maps.Placing.{Placed};
@@ -12,31 +12,31 @@ use crate::walk::walk;
 use layout::MapTables;
 use motion::State;
 use testing::PlanFault;
+use wire::FiledPayload;
 
-// Judges the plan whose payload, of `len` bytes, stands in a checked file.
+// Judges the plan of a payload.
 pub fn judge_plan(
-    file: &[u8],
-    len: usize,
+    p: FiledPayload,
     map: &MapTables,
     rows: &[[u64; 2]; 128],
     starts: [u8; 64],
     goals: [u8; 64],
     k: usize,
 ) -> Result<(), PlanFault>
-    requires len_in_bounds { (len ≤ length file.now / 512 * 504) × (length map.now.listed ≡ 128) }
+    requires listed { length map.now.listed ≡ 128 }
     requires placement { PlacementOn map.now k rows.now starts goals }
-    ensures { (m : Map) (pl : Placing) → GivenOn m k map.now rows.now → zone_count m ≡ map.now.zones → Placed m.size pl → pl.starts ≡ take k starts → pl.goals ≡ take k goals → JudgedTo m pl (take len (payload file.now)) result }
+    ensures { (m : Map) (pl : Placing) → GivenOn m k map.now rows.now → zone_count m ≡ map.now.zones → Placed m.size pl → pl.starts ≡ take k starts → pl.goals ≡ take k goals → JudgedTo m pl (take p.entry.len (payload p.entry.file.now)) result }
 {
-    if len < 2 {
+    if p.len < 2 {
         return Err(PlanFault::Short(0));
     }
-    let count = wire::payload_word(file, 0);
+    let count = wire::payload_word(p.file, 0);
     let s = State::standing(starts, k);
     let g = State::standing(goals, k);
     let mut lists = lists_of(&s, map);
-    let next = walk(file, len, count, map, rows, k, &mut lists)?;
-    if next != len {
-        return Err(PlanFault::Short(count));
+    let next = walk(p, count, map, rows, k, &mut lists)?;
+    if next != p.len {
+        return Err(PlanFault::Short(count as usize));
     }
     match off_zone(map, &lists, &g) {
         Some(z) => Err(PlanFault::Goal(z)),

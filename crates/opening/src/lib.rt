@@ -9,8 +9,8 @@ use checking::check_file;
 use layout::{MapTables, read_map};
 use placing::{PlacingTables, read_placing};
 use refusals::Refusal;
-use replay::check_moves;
-use wire::FileKind;
+use replay::{Graph, check_moves};
+use wire::{FileKind, FiledPayload};
 
 // A map and a placing that are accepted.
 #[derive(Drop)]
@@ -23,7 +23,7 @@ pub struct Yard {
 #[derive(Drop)]
 pub struct Opened {
     pub yard: Yard,
-    pub count: usize,
+    pub count: u16,
 }
 
 // How long the payload of a map is whose blocks have passed. Asked before rows and tables are made ready, which a refusal here does not need.
@@ -61,13 +61,18 @@ fn open_filed(map: &[u8], len: usize, placed: &[u8], moves: &[u8]) -> Result<Ope
     let mut rows = [[0u64; 2]; 128];
     let yard = read_yard(map, len, placed, &mut rows)?;
     let len = check_file(moves, FileKind::Moves).map_err(Refusal::ListFile)?;
-    let n = yard.map.vertices();
+    let list = FiledPayload { file: moves, len };
+    let vertices = yard.map.vertices();
+    let graph = Graph {
+        vertices,
+        rows: &rows,
+    };
     let PlacingTables {
         robots,
         starts,
         goals,
     } = yard.placing;
-    let count = check_moves(moves, len, &rows, n, starts, goals, robots as usize)?;
+    let count = check_moves(list, graph, starts, goals, robots as usize)?;
     Ok(Opened { yard, count })
 }
 

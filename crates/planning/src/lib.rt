@@ -12,7 +12,7 @@ use opening::{Yard, check_map, read_yard};
 use placing::PlacingTables;
 use refusals::Refusal;
 use resolve::resolve_plan;
-use wire::FileKind;
+use wire::{FileKind, FiledPayload};
 
 // Reads map, placing and plan, where the map's blocks have passed, and judges the plan: the map and placing of one that is cleared.
 fn read_filed(map: &[u8], len: usize, placed: &[u8], plan: &[u8]) -> Result<Yard, Refusal>
@@ -27,7 +27,8 @@ fn read_filed(map: &[u8], len: usize, placed: &[u8], plan: &[u8]) -> Result<Yard
         starts,
         goals,
     } = yard.placing;
-    judge_plan(plan, len, &yard.map, &rows, starts, goals, robots as usize)?;
+    let steps = FiledPayload { file: plan, len };
+    judge_plan(steps, &yard.map, &rows, starts, goals, robots as usize)?;
     Ok(yard)
 }
 

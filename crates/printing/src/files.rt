@@ -20,5 +20,5 @@ pub fn listing(map: &[u8], placing: &[u8], plan: &[u8], text: &mut [u8]) -> usiz
     let mut sheet = [0u8; 65536];
     galzpuna::galzpuna_rounds(map, placing, &moves[..len], &mut sheet);
     let count = wire::payload_word(&moves, 0);
-    put_moves(&moves, &sheet, count, text)
+    put_moves(&moves, &sheet, count as usize, text)
 }

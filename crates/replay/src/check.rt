@@ -1,5 +1,5 @@
 // Checking a move list against a map and a placing: each move in the state that the moves before it reach.
-ghost use Rattle.std.specs.Prelude.{◌≡◌, ℕ, ◌+◌, ◌*◌, ◌/◌, ◌<◌, ◌≤◌, length, take};
+ghost use Rattle.std.specs.Prelude.{◌≡◌, ℕ, ◌<◌, ◌≤◌, take};
 ghost use Rattle.spec.specs.Layout.{Map, Placing};
 ghost use Rattle.spec.specs.Arrangement.{mv};
 ghost use Rattle.spec.specs.Run.{on_goals, checked_moves};
@@ -8,9 +8,10 @@ ghost use Rattle.wire.specs.Payload.{payload};
 ghost use Rattle.replay.specs.Moves.{move_tests};
 ghost use Rattle.replay.specs.Check.{fault_at, list_fault_at, off_goal, move_list_of, ReplayOf};
 
-use crate::ListFault;
+use crate::{Graph, ListFault};
 use motion::State;
 use numbering::{Robot, Vertex};
+use wire::FiledPayload;
 
 // What is wrong with a move in a state: a robot or vertex that is not there, no edge, or a robot not at from or `to` taken.
 #[derive(Clone, Copy, Debug, PartialEq, Eq)]
@@ -45,23 +46,22 @@ fn edge_between(rows: &[[u64; 2]; 128], u: Vertex, v: Vertex) -> bool
     (word >> place) % 2 == 1
 }
 
-// Robot r's move between two vertices, tested on a map of n vertices for k robots: 46, 47, 48.
+// Robot r's move between two vertices, tested on a map for k robots: 46, 47, 48.
 fn fault_of(
     state: &State,
-    rows: &[[u64; 2]; 128],
-    n: usize,
+    graph: Graph,
     k: usize,
     r: Robot,
     from: Vertex,
     to: Vertex,
 ) -> Result<(), MoveFault>
-    requires { n ≤ 128 }
-    ensures { (m : Map) → m.size ≡ n → Shows rows.now m.edges → (i : ℕ) → fault_at i result ≡ move_tests m k state.now (mv r.0 from.0 to.0) i }
+    ensures { (m : Map) → m.size ≡ graph.entry.vertices → Shows graph.entry.rows.now m.edges → (i : ℕ) → fault_at i result ≡ move_tests m k state.now (mv r.0 from.0 to.0) i }
 {
+    let n = graph.vertices;
     if r.0 as usize >= k || from.0 as usize >= n || to.0 as usize >= n {
         return Err(MoveFault::Number);
     }
-    if !edge_between(rows, from, to) {
+    if !edge_between(graph.rows, from, to) {
         return Err(MoveFault::Edge);
     }
     if state.robot_on(from) != r || state.robot_on(to) != Robot(255) {
@@ -77,7 +77,7 @@ fn off_goal(state: &State, goals: &[u8; 64], k: usize) -> Option<usize>
 {
     for i in 0..k {
         let v = state.vertex_of(Robot(i as u8));
-        if v.0 != goals[i] {
+        if v != Vertex(goals[i]) {
             return Some(i);
         }
     }
@@ -86,56 +86,51 @@ fn off_goal(state: &State, goals: &[u8; 64], k: usize) -> Option<usize>
 
 // Replays `count` moves from a state, as long as they are legal.
 fn replay_moves(
-    file: &[u8],
-    len: usize,
-    count: usize,
-    rows: &[[u64; 2]; 128],
-    n: usize,
+    p: FiledPayload,
+    count: u16,
+    graph: Graph,
     k: usize,
     state: &mut State,
 ) -> Result<(), ListFault>
-    requires { (len ≤ length file.now / 512 * 504) × (count < 65536) × (n ≤ 128) }
-    ensures { (m : Map) → m.size ≡ n → Shows rows.now m.edges → ReplayOf m k (take len (payload file.now)) count state.old result state.new }
+    ensures { (m : Map) → m.size ≡ graph.entry.vertices → Shows graph.entry.rows.now m.edges → ReplayOf m k (take p.entry.len (payload p.entry.file.now)) count state.old result state.new }
 {
     let mut at: usize = 8;
-    for i in 0..count {
-        if len < 5 + i * 3 {
+    for i in 0..count as usize {
+        if p.len < 5 + i * 3 {
             return Err(ListFault::Short(i));
         }
-        let x = wire::three_from(file, at);
+        let x = wire::three_from(p.file, at);
         let r = Robot(x.first);
         let from = Vertex(x.second);
         let to = Vertex(x.third);
-        fault_of(state, rows, n, k, r, from, to).map_err(|f| f.of_move(i))?;
+        fault_of(state, graph, k, r, from, to).map_err(|f| f.of_move(i))?;
         state.shift(r, from, to);
         at = wire::place_after(at);
     }
     Ok(())
 }
 
-// How many moves the list has whose payload, of `len` bytes, stands in a checked file: legal, and to the goals.
+// How many moves the list of a payload has: legal, and to the goals.
 pub fn check_moves(
-    file: &[u8],
-    len: usize,
-    rows: &[[u64; 2]; 128],
-    n: usize,
+    p: FiledPayload,
+    graph: Graph,
     starts: [u8; 64],
     goals: [u8; 64],
     k: usize,
-) -> Result<usize, ListFault>
-    requires { (len ≤ length file.now / 512 * 504) × (n ≤ 128) × (k ≤ 64) }
-    ensures { (m : Map) (pl : Placing) → m.size ≡ n → Shows rows.now m.edges → pl.starts ≡ take k starts → pl.goals ≡ take k goals → move_list_of (take len (payload file.now)) result ≡ checked_moves m pl (take len (payload file.now)) }
+) -> Result<u16, ListFault>
+    requires { k ≤ 64 }
+    ensures { (m : Map) (pl : Placing) → m.size ≡ graph.entry.vertices → Shows graph.entry.rows.now m.edges → pl.starts ≡ take k starts → pl.goals ≡ take k goals → move_list_of (take p.entry.len (payload p.entry.file.now)) result ≡ checked_moves m pl (take p.entry.len (payload p.entry.file.now)) }
 {
-    if len < 2 {
+    if p.len < 2 {
         return Err(ListFault::Short(0));
     }
-    let count = wire::payload_word(file, 0);
+    let count = wire::payload_word(p.file, 0);
     let mut state = State::standing(starts, k);
-    replay_moves(file, len, count, rows, n, k, &mut state)?;
-    let whole = 2 + count * 3;
+    replay_moves(p, count, graph, k, &mut state)?;
+    let whole = 2 + count as usize * 3;
     let off = off_goal(&state, &goals, k);
-    if len != whole {
-        return Err(ListFault::Short(count));
+    if p.len != whole {
+        return Err(ListFault::Short(count as usize));
     }
     if let Some(r) = off {
         return Err(ListFault::Goal(r));

@@ -1,5 +1,5 @@
 // A cleared plan's steps, one after the other.
-ghost use Rattle.std.specs.Prelude.{◌<◌, take};
+ghost use Rattle.std.specs.Prelude.{take};
 ghost use Rattle.wire.specs.Payload.{payload};
 ghost use Rattle.motion.specs.World.{world};
 ghost use Rattle.walking.specs.OnMap.{StartedOn};
@@ -16,19 +16,18 @@ use stepping::step::make_step;
 // answers how many moves they are. The bytes of a step are read before the moves of the one before it are made.
 pub fn walk(
     file: &[u8],
-    count: usize,
+    count: u16,
     map: &MapTables,
     state: &mut State,
     out: &mut [u8],
 ) -> Result<usize, TooManyMoves>
-    requires count_bound { count < 65536 }
-    requires started { StartedOn file.now count map.now state.old }
+    requires { StartedOn file.now count map.now state.old }
     ensures { (x : StartedOn file.now count map.now state.old) → WalkedTo x.map x.k (take x.len (payload file.now)) count (world state.old 0 out.old) result state.new out.new }
 {
     let mut made: usize = 0;
     let mut o: usize = 2;
     let mut four = wire::payload_ahead(file, o);
-    let steps = count;
+    let steps = count as usize;
     for i in 0..steps {
         let over = 21503 < made;
         if over {

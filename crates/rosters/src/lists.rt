@@ -1,13 +1,13 @@
-// Lists of robots in lent bytes: the first n of a part are the list, and what stands behind them is left as it is.
-ghost use Rattle.std.specs.Prelude.{◌≡◌, ◌+◌, ◌≤◌, ◌<◌, length, take};
+// Lists of robots in lent bytes.
+ghost use Rattle.std.specs.Prelude.{◌≡◌, ◌-◌, ◌<◌, length, take};
 ghost use Rattle.orders.specs.Orders.{without, put_in};
-ghost use Rattle.rosters.specs.Lists.{Rewritten};
 
-// Takes the robot at index t out of the first n. A list of one or two needs no loop, and the pair no branch.
-pub fn remove(part: &mut [u8], n: usize, t: usize)
-    requires { (t < n) × (n ≤ length part.old) }
-    ensures { Rewritten part.old n (without t (take n part.old)) part.new }
+// Takes the robot at index t out; the part's last byte is left over. A list of one or two needs no loop, and the pair no branch.
+pub fn remove(part: &mut [u8], t: usize)
+    requires { t < length part.old }
+    ensures { (length part.new ≡ length part.old) × (take (length part.old - 1) part.new ≡ without t part.old) }
 {
+    let n = part.len();
     if n == 1 {
         return;
     }
@@ -18,19 +18,21 @@ pub fn remove(part: &mut [u8], n: usize, t: usize)
     part.copy_within(t + 1..n, t);
 }
 
-// Puts robot r before the one at index t of the first n.
-pub fn insert(part: &mut [u8], n: usize, t: usize, r: u8)
-    requires { (t ≤ n) × (n < length part.old) }
-    ensures { Rewritten part.old (n + 1) (put_in t r (take n part.old)) part.new }
+// Puts robot r before the one at index t; the part's last byte is the room for it. A list of none or one needs no loop, and the one no branch.
+pub fn insert(part: &mut [u8], t: usize, r: u8)
+    requires { t < length part.old }
+    ensures { part.new ≡ put_in t r (take (length part.old - 1) part.old) }
 {
+    let n = part.len() - 1;
+    if n == 0 {
+        part[0] = r;
+        return;
+    }
+    if n == 1 {
+        part[1 - t] = part[0];
+        part[t] = r;
+        return;
+    }
     part.copy_within(t..n, t + 1);
     part[t] = r;
-}
-
-// Puts a list first.
-pub fn store(part: &mut [u8], list: &[u8])
-    requires { length list.now ≤ length part.old }
-    ensures { Rewritten part.old (length list.now) list.now part.new }
-{
-    part[..list.len()].copy_from_slice(list);
 }

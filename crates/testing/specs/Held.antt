@@ -1,9 +1,10 @@
 -- The lists of all zones in one row of bytes: zone z's stands from first[z] on and has counts[z] robots.
 use Rattle.std.specs.Prelude.{◌≡◌, ◌≢◌, ◌⊎◌, List, ◌++◌, ℕ, suc, ◌+◌, ◌-◌, ◌≤◌, ◌<◌, length, get_or, set, take, drop}
-use Rattle.std.proofs.Common.{sym, ap, subst, ◌∙◌, inl, inr, append-nil, arith, length-append, length-set, length-drop}
-use borrow.Rule.Slice.PartMut.{put_mid, Post-is}
+use Rattle.std.proofs.Common.{sym, ap, ◌∙◌, inl, inr, arith, length-set, length-drop}
+use borrow.Rule.Slice.PartMut.{put_mid, same_len_mid}
 use Rattle.std.proofs.Math.Decide.{ℕ_discrete, dec_le}
-use lib.Seq.{length-take-le, get_or-take, get_or-drop, get_or-set_same, get_or-set_other, ext_get_or, take_all, drop-length}
+use lib.Seq.{length-take-le, get_or-take, get_or-drop, get_or-set_same, get_or-set_other, ext_get_or, take_all, drop_at}
+use Rattle.std.proofs.lemmas.List.{take-append-le, length-take}
 use Rattle.spec.specs.Layout.{Map, zone_of, zone_at}
 use Rattle.spec.specs.State.{State, moved_all}
 use Rattle.spec.specs.Outcome.{index_of}
@@ -19,7 +20,7 @@ use Rattle.orders.specs.Orders.{Holds, without, entered}
 use Rattle.orders.specs.Leaving.{left}
 use Rattle.orders.specs.Entering.{entered_holds}
 use Rattle.walking.specs.Given.{Given}
-use Rattle.rosters.specs.Lists.{Rewritten, append_left, append_right, rest_is}
+use Rattle.rosters.specs.Lists.{append_left, append_right}
 
 -- the list of zone z
 abbrev pub list_in : List ℕ → List ℕ → List ℕ → ℕ → List ℕ
@@ -39,33 +40,27 @@ pub record Changed (cells : List ℕ) (a n : ℕ) (l : List ℕ) (new : List ℕ
   pub before : (k : ℕ) → k < a → get_or new k 0 ≡ get_or cells k 0
   pub after : (k : ℕ) → a + n ≤ k → get_or new k 0 ≡ get_or cells k 0
 
--- by a part that begins there
-pub changed_part : (cells : List ℕ) (a n : ℕ) (l part new : List ℕ) → a ≤ length cells → new ≡ take a cells ++ part → Rewritten (drop a cells) n l part → Changed cells a n l new
-changed_part cells a n l part new h e w =
-    let q : length (take a cells) ≡ a = length-take-le a cells h in
+-- by c elements from there on
+pub changed_mid : (cells : List ℕ) (a n c : ℕ) (l part : List ℕ) → a + c ≤ length cells → c ≤ n → length part ≡ c → take (length l) part ≡ l → Changed cells a n l (put_mid a c cells part)
+changed_mid cells a n c l part h m e w =
+    let q : length (take a cells) ≡ a = length-take-le a cells (omega arith) in
+    let back : List ℕ = drop c (drop a cells) in
     record {
-      long = ap length e ∙ length-append (take a cells) part ∙ omega (arith, q, w.long, length-drop a cells);
-      here = ap (take (length l)) (ap (drop a) e ∙ rest q) ∙ w.here;
-      before = λ k b. ap (λ (x : List ℕ). get_or x k 0) e ∙ append_left (take a cells) part a k q b ∙ get_or-take a cells k 0 b;
+      long = same_len_mid a c cells part (e ∙ sym (length-take-le c (drop a cells) (omega (arith, length-drop a cells))));
+      here = ap (take (length l)) (drop_at (take a cells) (part ++ back) a q) ∙ first w;
+      before = λ k b. append_left (take a cells) (part ++ back) a k q b ∙ get_or-take a cells k 0 b;
       after = λ k b.
-          let f : a + (k - a) ≡ k = omega arith in
-          ap (λ (x : List ℕ). get_or x k 0) e ∙ append_right (take a cells) part a k q (omega arith) ∙ w.past (k - a) (omega arith) ∙ get_or-drop a cells (k - a) 0 ∙ ap (λ (x : ℕ). get_or cells x 0) f;
+          let f : a + (c + (k - a - c)) ≡ k = omega arith in
+          append_right (take a cells) (part ++ back) a k q (omega arith) ∙ append_right part back c (k - a) e (omega arith)
+          ∙ get_or-drop c (drop a cells) (k - a - c) 0 ∙ get_or-drop a cells (c + (k - a - c)) 0 ∙ ap (λ (x : ℕ). get_or cells x 0) f;
     }
   where
-    rest : length (take a cells) ≡ a → drop a (take a cells ++ part) ≡ part
-    rest q = lib.Seq.drop_at (take a cells) part a q
+    first : take (length l) part ≡ l → take (length l) (part ++ drop c (drop a cells)) ≡ l
+    first w = take-append-le (length l) part (drop c (drop a cells)) (omega (arith, ap length (sym w), length-take (length l) part)) ∙ w
 
--- the rest of a row of w
-pub rest_of : (a w : ℕ) (cells : List ℕ) → length cells ≡ w → take (w - a) (drop a cells) ≡ drop a cells
-rest_of a w cells e = rw (← e) (rest_is a cells)
-
--- by the rest of the row of w that was lent; f is what becomes of it
-pub changed_rest : (cells : List ℕ) (a n w : ℕ) (f : List ℕ → List ℕ) (part : List ℕ) → length cells ≡ w → a ≤ w → Rewritten (take (w - a) (drop a cells)) n (f (take (w - a) (drop a cells))) part
-    → Changed cells a n (f (drop a cells)) (put_mid a (w - a) cells part)
-changed_rest cells a n w f part e h r =
-    changed_part cells a n (f (drop a cells)) part (put_mid a (w - a) cells part) (omega (arith, e))
-    (ap (λ (t : List ℕ). take a cells ++ t) (ap (λ (t : List ℕ). part ++ t) (Post-is a w cells h ∙ rw (← e) (drop-length cells)) ∙ append-nil part))
-    (subst (λ (x : List ℕ). Rewritten x n (f x) part) (rest_of a w cells e) r)
+-- by a part that is the list l
+pub changed_part : (cells : List ℕ) (a n c : ℕ) (l part : List ℕ) → a + c ≤ length cells → c ≤ n → length l ≡ c → part ≡ l → Changed cells a n l (put_mid a c cells part)
+changed_part cells a n c l part h m e w = changed_mid cells a n c l part h m (ap length w ∙ e) (ap (take (length l)) w ∙ take_all (length l) l (omega arith))
 
 -- elements that are all the same are the same part
 same_part : (xs ys : List ℕ) (f c : ℕ) → length ys ≡ length xs → f + c ≤ length xs → ((k : ℕ) → f ≤ k → k < f + c → get_or ys k 0 ≡ get_or xs k 0) → take c (drop f ys) ≡ take c (drop f xs)

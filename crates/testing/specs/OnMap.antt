@@ -6,7 +6,7 @@ use Rattle.numbering.specs.Kind.{number_of}
 use Rattle.layout.specs.Lists.{MapLists}
 use Rattle.walking.specs.OnMap.{kind_on, place_on}
 use Rattle.testing.specs.declared.Lists.{Lists}
-use Rattle.testing.specs.declared.Spot.{Spot}
+use Rattle.rosters.specs.declared.Spot.{Spot}
 use Rattle.testing.specs.declared.Step.{Step}
 use Rattle.testing.specs.declared.StepFault.{StepFault}
 use Rattle.testing.specs.Held.{list_in, Held}

@@ -169,8 +169,8 @@ module _ (kind : ℕ) (l : List ℕ) (b : Arrangement) (p : Proper b) (h : Holds
       sym (enter_is kind l b p h r j behind list (rw e x) (rw (not_full q) tt) (y ∙ extra_is) ∙ ap (λ (z : ℕ). enter_test kind z l r j behind list) e)
 
 -- no bytes: no clique is filled
-pub extra_zero : (kind size n e : ℕ) → e ≡ extra_on kind size n → e ≡ 0 → n < size → kind ≡ 3 → suc n ≡ size → ⊥
-extra_zero kind size n e q z h k l = omega (arith, extra_filled kind size n k l)
+pub extra_zero : (kind size n e : ℕ) → e ≡ extra_on kind size n → e ≡ 0 → kind ≡ 3 → suc n ≡ size → ⊥
+extra_zero kind size n e q z k l = omega (arith, extra_filled kind size n k l)
 
 -- some: one is, with a byte for each place
 pub extra_some : (kind size n e : ℕ) → e ≡ extra_on kind size n → (e ≡ 0 → ⊥) → (kind ≡ 3) × (suc n ≡ size) × (e ≡ size)

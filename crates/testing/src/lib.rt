@@ -12,7 +12,8 @@ ghost use Rattle.testing.specs.Fault.{refusal_of};
 ghost use Rattle.testing.specs.OnMap.{FitsOn, SpotOf};
 
 use layout::MapTables;
-use numbering::{Vertex, Zone, ZoneKind};
+use numbering::Vertex;
+use rosters::Spot;
 pub use steps::test_step;
 
 // Which of document 01's refusals of a step.
@@ -66,17 +67,6 @@ pub struct Step {
 pub struct Lists {
     pub cells: [u8; 128],
     pub counts: [u8; 64],
-}
-
-// A vertex's place in its zone, with the zone's kind and size, the cell from which on its list stands, and how many robots it has.
-#[derive(Clone, Copy)]
-pub struct Spot {
-    pub zone: Zone,
-    pub kind: ZoneKind,
-    pub first: usize,
-    pub size: usize,
-    pub count: usize,
-    pub place: usize,
 }
 
 impl Lists {

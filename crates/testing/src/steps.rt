@@ -1,5 +1,5 @@
 // The tests of a step on the lists: every check in document 01's order, and no move is made.
-ghost use Rattle.std.specs.Prelude.{◌≡◌, ◌+◌, ◌*◌, ◌/◌, ◌≤◌, ◌<◌, length};
+ghost use Rattle.std.specs.Prelude.{◌≡◌, ◌+◌, ◌≤◌, ◌<◌, length};
 ghost use Rattle.numbering.specs.Kind.{number_of};
 ghost use Rattle.orders.specs.Orders.{leave_test};
 ghost use Rattle.walking.specs.OnMap.{kind_on, place_on};
@@ -8,11 +8,13 @@ ghost use Rattle.testing.specs.Steps.{extra_on, EntryTested};
 ghost use Rattle.testing.specs.OnMap.{size_on, count_on, list_on, FitsOn, ReadyOn, StepTestedOn};
 
 use crate::tests::{are_numbered, is_crossing};
-use crate::{Lists, Spot, Step, StepFault};
+use crate::{Lists, Step, StepFault};
 use configurations::entering::{can_fill, entry_at};
 use exits::leaving::leave_index;
 use layout::MapTables;
 use numbering::{Robot, Vertex, ZoneKind};
+use rosters::Spot;
+use wire::FiledPayload;
 
 // An entry that passed its tests: the index at which the robot comes into the list, 0 where it fills a clique, and how many bytes the follow list has.
 #[derive(Clone, Copy)]
@@ -27,8 +29,7 @@ fn leave_at(map: &MapTables, lists: &Lists, r: Robot, u: Vertex) -> Option<usize
     ensures { LeaveFound (leave_test (kind_on map.now u.0) (size_on map.now u.0) (list_on map.now lists.now u.0) r.0 (place_on map.now u.0)) r.0 (count_on map.now lists.now u.0) (list_on map.now lists.now u.0) result }
 {
     let at = lists.spot(map, u);
-    let part = &lists.cells[at.first..];
-    leave_index(at.kind, part, at.count, at.size, r, at.place)
+    leave_index(at, &lists.cells[at.first..], r)
 }
 
 // How many bytes the follow list has of a step into a zone of `size` places with n robots.
@@ -44,37 +45,29 @@ fn list_length(kind: ZoneKind, n: usize, size: usize) -> usize
 
 // Robot r's entry at a spot of a zone with these robots inside: "full target, follow list present, 39".
 fn test_entry(
-    file: &[u8],
-    len: usize,
+    p: FiledPayload,
     o: usize,
     at: Spot,
     inside: &[u8],
     r: Robot,
     behind: u8,
 ) -> Result<Entry, StepFault>
-    requires { (len ≤ length file.now / 512 * 504) × (o + 4 ≤ len) × (length inside.now ≡ at.count) × (at.count ≤ at.size) × (at.size ≤ 128) × (at.place < at.size) }
-    ensures { EntryTested file.now len o (number_of at.kind) at.count inside.now at.size r.0 at.place behind result }
+    requires { (o + 4 ≤ p.len) × (length inside.now ≡ at.count) × (at.size ≤ 128) }
+    ensures { EntryTested p.entry.file.now p.entry.len o (number_of at.kind) at.count inside.now at.size r.0 at.place behind result }
 {
-    let Spot {
-        kind,
-        size,
-        count: n,
-        place: j,
-        ..
-    } = at;
-    if n == size {
+    if at.count == at.size {
         return Err(StepFault::Enter);
     }
-    let list = list_length(kind, n, size);
-    let short = len - o - 4 < list;
+    let list = list_length(at.kind, at.count, at.size);
+    let short = p.len - o - 4 < list;
     if short {
         return Err(StepFault::Short);
     }
     if list == 0 {
-        let into = entry_at(kind, inside, size, j, behind).ok_or(StepFault::Enter)?;
+        let into = entry_at(at.kind, inside, at.size, at.place, behind).ok_or(StepFault::Enter)?;
         return Ok(Entry { into, list });
     }
-    if can_fill(file, o + 4, inside, size, r, j, behind) {
+    if can_fill(p.file, o + 4, at, inside, r, behind) {
         return Ok(Entry { into: 0, list });
     }
     Err(StepFault::Enter)
@@ -82,8 +75,7 @@ fn test_entry(
 
 // Robot r's entry at vertex v.
 fn test_entry_at(
-    file: &[u8],
-    len: usize,
+    p: FiledPayload,
     o: usize,
     map: &MapTables,
     lists: &Lists,
@@ -91,33 +83,32 @@ fn test_entry_at(
     v: Vertex,
     behind: u8,
 ) -> Result<Entry, StepFault>
-    requires len_in_bounds { (len ≤ length file.now / 512 * 504) × (o + 4 ≤ len) }
+    requires o_in_bounds { o + 4 ≤ p.len }
     requires fits { FitsOn map.now lists.now v.0 }
-    ensures { EntryTested file.now len o (kind_on map.now v.0) (count_on map.now lists.now v.0) (list_on map.now lists.now v.0) (size_on map.now v.0) r.0 (place_on map.now v.0) behind result }
+    ensures { EntryTested p.entry.file.now p.entry.len o (kind_on map.now v.0) (count_on map.now lists.now v.0) (list_on map.now lists.now v.0) (size_on map.now v.0) r.0 (place_on map.now v.0) behind result }
 {
     let at = lists.spot(map, v);
     let inside = &lists.cells[at.first..][..at.count];
-    test_entry(file, len, o, at, inside, r, behind)
+    test_entry(p, o, at, inside, r, behind)
 }
 
 // The tests of the step at offset o of the payload, for k robots.
 pub fn test_step(
-    file: &[u8],
-    len: usize,
+    p: FiledPayload,
     o: usize,
     map: &MapTables,
     rows: &[[u64; 2]; 128],
     k: usize,
     lists: &Lists,
 ) -> Result<Step, StepFault>
-    requires len_in_bounds { (len ≤ length file.now / 512 * 504) × (o ≤ len) }
+    requires o_in_bounds { o ≤ p.len }
     requires ready { ReadyOn map.now k rows.now lists.now }
-    ensures { StepTestedOn file.now len o map.now k rows.now lists.now result }
+    ensures { StepTestedOn p.entry.file.now p.entry.len o map.now k rows.now lists.now result }
 {
-    if len - o < 4 {
+    if p.len - o < 4 {
         return Err(StepFault::Short);
     }
-    let bytes = wire::payload_four(file, o);
+    let bytes = wire::payload_four(p.file, o);
     let r = Robot(bytes.first);
     let u = Vertex(bytes.second);
     let v = Vertex(bytes.third);
@@ -129,7 +120,7 @@ pub fn test_step(
     }
     let stood = leave_at(map, lists, r, u);
     let out = stood.ok_or(StepFault::Leave)?;
-    let Entry { into, list } = test_entry_at(file, len, o, map, lists, r, v, bytes.fourth)?;
+    let Entry { into, list } = test_entry_at(p, o, map, lists, r, v, bytes.fourth)?;
     Ok(Step {
         bytes,
         out,

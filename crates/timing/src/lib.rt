@@ -1,14 +1,13 @@
 // The rounds of a move list: last rounds are kept by robot and by vertex left, so that each move is looked at once.
 #![tactic(auto)]
 
-ghost use Rattle.std.specs.Prelude.{◌≡◌, [], ◌<◌};
+ghost use Rattle.std.specs.Prelude.{◌≡◌, []};
 ghost use Rattle.spec.specs.State.{word_bytes, rounds_from};
 ghost use Rattle.writer.specs.Laid.{laid_all};
 ghost use Rattle.replay.specs.Moves.{moves_by, file_bytes};
 
 // Lays the round of each of the list's first `count` moves, after the two bytes of the count.
-pub fn write_rounds(file: &[u8], count: usize, out: &mut [u8])
-    requires { count < 65536 }
+pub fn write_rounds(file: &[u8], count: u16, out: &mut [u8])
     ensures { out.new ≡ laid_all out.old 2 (word_bytes (rounds_from [] (moves_by (file_bytes file.now) 0 count))) }
 {
     let mut last = [0u32; 256];

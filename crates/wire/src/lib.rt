@@ -3,7 +3,7 @@
 //     payload    the bytes of a payload, read from the file
 #![tactic(auto)]
 
-ghost use Rattle.std.specs.Prelude.{◌≡◌};
+ghost use Rattle.std.specs.Prelude.{◌≡◌, ◌*◌, ◌/◌, ◌≤◌, length};
 ghost use Rattle.wire.specs.Kind.{number_of_file, blocks_of_file};
 
 pub mod payload;
@@ -12,6 +12,14 @@ pub use payload::{
     byte_at, next_place, payload_ahead, payload_byte, payload_four, payload_part, payload_word,
     place_after, place_of, three_from,
 };
+
+// A payload of `len` bytes, in the file whose blocks have them.
+#[derive(Clone, Copy)]
+pub struct FiledPayload<'a> {
+    pub file: &'a [u8],
+    pub len: usize,
+    pub ghost inside: { len ≤ length file.now / 512 * 504 },
+}
 
 // Three bytes of a payload that stand one after the other, as those of a move. Contracts name each of them, so it is no array.
 #[derive(Clone, Copy, Debug, PartialEq, Eq)]

@@ -31,12 +31,12 @@ pub fn payload_byte(file: &[u8], off: usize) -> u8
 }
 
 // The two-byte number at `off` of the payload, its high byte first.
-pub fn payload_word(file: &[u8], off: usize) -> usize
+pub fn payload_word(file: &[u8], off: usize) -> u16
     ensures { (result ≡ word_at file.now off) × (result < 65536) }
 {
     if off < file.len() {
-        let high = usize::from(payload_byte(file, off));
-        let low = usize::from(payload_byte(file, off + 1));
+        let high = u16::from(payload_byte(file, off));
+        let low = u16::from(payload_byte(file, off + 1));
         high * 256 + low
     } else {
         0

@@ -22,11 +22,7 @@ returns-in_err-len c =
     rw (p.1, p.2) (opened_file c.args.map.now c.args.placed.now c.args.moves.now _ _ _ c.in_ok-yard.ensures _ (told.file_refused c.args.moves.now 40 4 128 ListFile k.result (k.ensures.by_index 40) _ (told.list_file_refused c.args.moves.now) c.in_err-len.ensures.cases))
 
 pub check_moves-requires : goal.check_moves-requires
-check_moves-requires c =
-    let k = c.check_file in
-    let w = told.file_read c.args.moves.now 40 4 128 ListFile k.result (k.ensures.by_index 40) c.in_ok-len.len c.in_ok-len.ensures.cases in
-    let d = c.in_ok-yard.ensures in
-    ((held_as _ _ _ _ k.ensures.held w.0).most, omega (arith, d.held.small, c.vertices-n.ensures), d.robots.few)
+check_moves-requires c = c.in_ok-yard.ensures.robots.few
 
 pub returns-in_err-count : goal.returns-in_err-count
 returns-in_err-count c =
@@ -36,7 +32,7 @@ returns-in_err-count c =
     let d = c.in_ok-yard.ensures in
     rw (p.1, p.2)
     (opened_list c.args.map.now c.args.placed.now c.args.moves.now _ _ _ d (λ i. omega (arith, c.type_inv.moves i)) _ w.1 (held_as _ _ _ _ k.ensures.held w.0).most _
-    (c.in_err-count.ensures d.it.graph d.it.placing (sym d.held.size ∙ sym c.vertices-n.ensures) d.shown (sym d.robots.starts) (sym d.robots.goals)))
+    (c.in_err-count.ensures d.it.graph d.it.placing (sym d.held.size ∙ sym c.vertices-vertices.ensures) d.shown (sym d.robots.starts) (sym d.robots.goals)))
 
 pub returns : goal.returns
 returns c =
@@ -44,4 +40,4 @@ returns c =
     let w = told.file_read c.args.moves.now 40 4 128 ListFile k.result (k.ensures.by_index 40) c.in_ok-len.len c.in_ok-len.ensures.cases in
     let d = c.in_ok-yard.ensures in
     opened_all c.args.map.now c.args.placed.now c.args.moves.now _ _ _ d (λ i. omega (arith, c.type_inv.moves i)) _ w.1 (held_as _ _ _ _ k.ensures.held w.0).most _
-    (c.in_ok-count.ensures d.it.graph d.it.placing (sym d.held.size ∙ sym c.vertices-n.ensures) d.shown (sym d.robots.starts) (sym d.robots.goals))
+    (c.in_ok-count.ensures d.it.graph d.it.placing (sym d.held.size ∙ sym c.vertices-vertices.ensures) d.shown (sym d.robots.starts) (sym d.robots.goals))

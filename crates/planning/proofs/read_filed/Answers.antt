@@ -22,10 +22,7 @@ returns-in_err-len c =
     rw (p.1, p.2) (cleared_file c.args.map.now c.args.placed.now c.args.plan.now _ _ _ c.in_ok-yard.ensures _ (told.file_refused c.args.plan.now 30 3 64 PlanFile k.result (k.ensures.by_index 30) _ (told.plan_file_refused c.args.plan.now) c.in_err-len.ensures.cases))
 
 pub judge_plan-requires : goal.judge_plan-requires
-judge_plan-requires c =
-    let k = c.check_file in
-    let w = told.file_read c.args.plan.now 30 3 64 PlanFile k.result (k.ensures.by_index 30) c.in_ok-len.len c.in_ok-len.ensures.cases in
-    record { len_in_bounds = ((held_as _ _ _ _ k.ensures.held w.0).most, c.in_ok-yard.ensures.held.long_listed); placement = yard_placement _ _ _ _ _ c.in_ok-yard.ensures }
+judge_plan-requires c = record { listed = c.in_ok-yard.ensures.held.long_listed; placement = yard_placement _ _ _ _ _ c.in_ok-yard.ensures }
 
 pub returns-in_err-judge_plan : goal.returns-in_err-judge_plan
 returns-in_err-judge_plan c =

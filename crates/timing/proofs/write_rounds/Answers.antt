@@ -17,7 +17,7 @@ overflow_add-last c =
 pub overflow_cast-round : goal.overflow_cast-round
 overflow_cast-round c =
     let k = c.loop-i.invariant.2.kept in
-    omega (arith, c.requires, c.max-round.ensures, entry_small _ _ _ _ k c.three_from-x.result.first (search rules), left_entry_small _ _ _ _ k c.three_from-x.result.third (search rules))
+    omega (arith, c.max-round.ensures, entry_small _ _ _ _ k c.three_from-x.result.first (search rules), left_entry_small _ _ _ _ k c.three_from-x.result.third (search rules))
 
 pub place_after-at-requires : goal.place_after-at-requires
 place_after-at-requires c = omega (arith, c.loop-i.invariant.0, c.loop-i.invariant.2.within)

@@ -1,17 +1,23 @@
-use Rattle.std.proofs.Common.{◌≤◌, length, take, length-take-le, arith}
-use Rattle.rosters.specs.Lists.{wider, put_as}
-use Rattle.configurations.specs.Entering.{ring_free, ring_filled}
+use Rattle.std.proofs.Common.{◌≡◌, ◌∙◌, ◌-◌, suc, ap, length, take, arith}
+use Rattle.orders.specs.Orders.{turned_by}
+use Rattle.orders.specs.Lengths.{put_length}
+use Rattle.configurations.specs.Entering.{ring_free, ring_full}
 use Rattle.configurations.proofs.entering.ring_enter.Goals as goal
 
-pub returns-then-n-size : goal.returns-then-n-size
-returns-then-n-size c =
-    λ behind e.
-    let a = c.args in
-    ring_filled a.part.now _ _ a.n a.size a.r a.j behind a.t _ c.requires.1 c.if-n-size.true e c.turn_count-q.ensures.0 c.turn_count-q.ensures.1 c.insert.ensures c.rotate_left.ensures.after
+pub turn-requires : goal.turn-requires
+turn-requires c = omega (arith, c.turn_count-q.ensures.1, c.if-part-at.true)
 
-pub returns-else-n-size : goal.returns-else-n-size
-returns-else-n-size c =
+pub returns-then-part-at : goal.returns-then-part-at
+returns-then-part-at c =
     λ behind e.
     let a = c.args in
-    let h : a.n ≤ length a.part.now = omega (arith, c.requires) in
-    put_as _ _ _ _ _ (ring_free (take a.n a.part.now) a.size a.r a.j behind a.t (λ z. c.if-n-size.false (omega (arith, length-take-le a.n a.part.now h))) e) (wider a.size (omega (arith, c.requires)) c.insert.ensures)
+    let p = a.part.now in
+    let z : suc (length (take (length p - 1) p)) ≡ a.at.size = omega (arith, c.if-part-at.true, ap length c.insert.ensures, put_length a.t a.r (take (length p - 1) p)) in
+    c.turn.ensures ∙ ap (turned_by _) c.insert.ensures ∙ ring_full (take (length p - 1) p) a.at.size a.r a.at.place behind a.t _ z e c.turn_count-q.ensures.0
+
+pub returns-else-part-at : goal.returns-else-part-at
+returns-else-part-at c =
+    λ behind e.
+    let a = c.args in
+    let p = a.part.now in
+    c.insert.ensures ∙ ring_free (take (length p - 1) p) a.at.size a.r a.at.place behind a.t (λ z. c.if-part-at.false (omega (arith, z, ap length c.insert.ensures, put_length a.t a.r (take (length p - 1) p)))) e

@@ -8,10 +8,10 @@ pub returns-then-is_pinned : goal.returns-then-is_pinned
 unfolding goes
 returns-then-is_pinned c =
     let a = c.args in
-    c.lets_out-free.ensures ∙ chosen_pinned (kind? (number_of a.kind)) _ _ c.if-is_pinned.true c.is_pinned.ensures
+    c.lets_out-free.ensures ∙ chosen_pinned (kind? (number_of a.at.kind)) _ _ c.if-is_pinned.true c.is_pinned.ensures
 
 pub returns-else-is_pinned : goal.returns-else-is_pinned
 unfolding goes
 returns-else-is_pinned c =
     let a = c.args in
-    c.has_room-room.ensures ∙ chosen_hall (kind? (number_of a.kind)) _ _ c.if-is_pinned.false c.is_pinned.ensures
+    c.has_room-room.ensures ∙ chosen_hall (kind? (number_of a.at.kind)) _ _ c.if-is_pinned.false c.is_pinned.ensures

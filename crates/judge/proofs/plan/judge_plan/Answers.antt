@@ -13,15 +13,15 @@ use Rattle.testing.specs.Steps.{has_list}
 use Rattle.judge.specs.Judging.{judged_none, judged_refused, judged_surplus, judged_goals}
 use Rattle.judge.proofs.plan.judge_plan.Goals as goal
 
-pub returns-then-len-lt2 : goal.returns-then-len-lt2
-returns-then-len-lt2 c = λ m pl d e pd es eg. judged_none c.args.file.now c.args.len c.requires.len_in_bounds.0 c.if-len-lt2.true
+pub returns-then-p-lt2 : goal.returns-then-p-lt2
+returns-then-p-lt2 c = λ m pl d e pd es eg. judged_none c.args.p.file.now c.args.p.len c.args.p.inside c.if-p-lt2.true
 
 pub lists_of-lists-requires : goal.lists_of-lists-requires
 lists_of-lists-requires c =
     let a = c.args in
     let t = a.map.now in
     let b = c.requires.placement in
-    (λ z h. has_zone b.map t.vertices a.k t.kind t.first t.size t.listed t.zone t.place a.rows.now b.given z (rw b.count h), c.requires.len_in_bounds.1)
+    (λ z h. has_zone b.map t.vertices a.k t.kind t.first t.size t.listed t.zone t.place a.rows.now b.given z (rw b.count h), c.requires.listed)
 
 pub walk-requires-clause-ready : goal.walk-requires-clause-ready
 walk-requires-clause-ready c =
@@ -41,17 +41,17 @@ returns-in_err-next c =
     let l : a.k ≤ length a.starts = omega (arith, long, d.few) in
     let hc = start_consistent m d.accepted pl pd a.k a.starts _ l es c.standing-s.ensures in
     let held = c.lists_of-lists.ensures.2 m a.k a.rows.now d e hc in
-    judged_refused a.file.now a.len c.requires.len_in_bounds.0 a.starts c.if-len-lt2.false c.payload_word-count.ensures.0 l es c.standing-s.ensures (c.in_err-next.ensures.2 m d _ hc held))
+    judged_refused a.p.file.now a.p.len a.p.inside a.starts c.if-p-lt2.false c.payload_word-count.ensures.0 l es c.standing-s.ensures (c.in_err-next.ensures.2 m d _ hc held))
 
-pub returns-then-next-len : goal.returns-then-next-len
-returns-then-next-len c =
+pub returns-then-next-p : goal.returns-then-next-p
+returns-then-next-p c =
     λ m pl d e pd es eg.
     let a = c.args in
     let long : length a.starts ≡ 64 = search rules in
     let l : a.k ≤ length a.starts = omega (arith, long, d.few) in
     let hc = start_consistent m d.accepted pl pd a.k a.starts _ l es c.standing-s.ensures in
     let held = c.lists_of-lists.ensures.2 m a.k a.rows.now d e hc in
-    judged_surplus a.file.now a.len c.requires.len_in_bounds.0 a.starts c.if-len-lt2.false c.payload_word-count.ensures.0 l es c.standing-s.ensures (c.in_ok-next.ensures.2 m d _ hc held) c.if-next-len.true
+    judged_surplus a.p.file.now a.p.len a.p.inside a.starts c.if-p-lt2.false c.payload_word-count.ensures.0 l es c.standing-s.ensures (c.in_ok-next.ensures.2 m d _ hc held) c.if-next-p.true
 
 pub off_zone-requires : goal.off_zone-requires
 off_zone-requires c =
@@ -73,7 +73,7 @@ returns-in-Some c =
     let hc = start_consistent m d.accepted pl pd a.k a.starts _ l es c.standing-s.ensures in
     let held = c.lists_of-lists.ensures.2 m a.k a.rows.now d e hc in
     let x = c.in_ok-next.ensures.2 m d _ hc held in
-    judged_goals a.file.now a.len c.requires.len_in_bounds.0 a.starts c.if-len-lt2.false c.payload_word-count.ensures.0 l es c.standing-s.ensures x (c.standing-g.ensures ∙ ap meaning.standing (sym eg)) c.if-next-len.false (Err (plan.Goal c.in-Some.z)) (c.in-Some.ensures m a.k a.rows.now d e x.state x.consistent x.held)
+    judged_goals a.p.file.now a.p.len a.p.inside a.starts c.if-p-lt2.false c.payload_word-count.ensures.0 l es c.standing-s.ensures x (c.standing-g.ensures ∙ ap meaning.standing (sym eg)) c.if-next-p.false (Err (plan.Goal c.in-Some.z)) (c.in-Some.ensures m a.k a.rows.now d e x.state x.consistent x.held)
 
 pub returns-in-None : goal.returns-in-None
 returns-in-None c =
@@ -84,4 +84,4 @@ returns-in-None c =
     let hc = start_consistent m d.accepted pl pd a.k a.starts _ l es c.standing-s.ensures in
     let held = c.lists_of-lists.ensures.2 m a.k a.rows.now d e hc in
     let x = c.in_ok-next.ensures.2 m d _ hc held in
-    judged_goals a.file.now a.len c.requires.len_in_bounds.0 a.starts c.if-len-lt2.false c.payload_word-count.ensures.0 l es c.standing-s.ensures x (c.standing-g.ensures ∙ ap meaning.standing (sym eg)) c.if-next-len.false (Ok tt) (c.in-None.ensures m a.k a.rows.now d e x.state x.consistent x.held)
+    judged_goals a.p.file.now a.p.len a.p.inside a.starts c.if-p-lt2.false c.payload_word-count.ensures.0 l es c.standing-s.ensures x (c.standing-g.ensures ∙ ap meaning.standing (sym eg)) c.if-next-p.false (Ok tt) (c.in-None.ensures m a.k a.rows.now d e x.state x.consistent x.held)

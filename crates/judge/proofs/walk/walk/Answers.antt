@@ -9,7 +9,7 @@ use Rattle.judge.proofs.walk.walk.Goals as goal
 pub loop-i-init : goal.loop-i-init
 loop-i-init c =
     let a = c.args in
-    record { room = c.requires.ready.room; many = c.requires.ready.many; judging = λ m d s hc x. judging_start d a.file.now a.len c.requires.len_in_bounds.0 a.count c.requires.len_in_bounds.1 hc x }
+    record { room = c.requires.ready.room; many = c.requires.ready.many; judging = λ m d s hc x. judging_start d a.p.file.now a.p.len a.p.inside a.count c.requires.two_bytes hc x }
 
 pub test_step-requires : goal.test_step-requires
 test_step-requires c =
@@ -17,7 +17,7 @@ test_step-requires c =
     let q = c.requires.ready in
     let l = c.loop-i in
     let j = l.invariant.judging q.map q.given q.state q.consistent q.held in
-    record { len_in_bounds = (c.requires.len_in_bounds.0, judging_offset q.given a.file.now a.len c.requires.len_in_bounds.0 a.count l.invariant.room l.invariant.many j); ready = judging_ready q.given a.file.now a.len c.requires.len_in_bounds.0 a.count l.invariant.room l.invariant.many j }
+    record { o_in_bounds = judging_offset q.given a.p.file.now a.p.len a.p.inside a.count l.invariant.room l.invariant.many j; ready = judging_ready q.given a.p.file.now a.p.len a.p.inside a.count l.invariant.room l.invariant.many j }
 
 pub returns-in_err-x : goal.returns-in_err-x
 returns-in_err-x c =
@@ -30,7 +30,7 @@ returns-in_err-x c =
       l.invariant.many,
       λ m d s hc x.
           let j = l.invariant.judging m d s hc x in
-          judging_stop d a.file.now a.len c.requires.len_in_bounds.0 a.count l.invariant.room l.invariant.many j w.0 w.2 (w.1 m d j.world.state j.walking.consistent j.held l.i-counter) c.loop-i-test.true,
+          judging_stop d a.p.file.now a.p.len a.p.inside a.count l.invariant.room l.invariant.many j w.0 w.2 (w.1 m d j.world.state j.walking.consistent j.held l.i-counter) c.loop-i-test.true,
     )
 
 pub overflow_add-o : goal.overflow_add-o
@@ -40,9 +40,9 @@ overflow_add-o c =
     let l = c.loop-i in
     let j = l.invariant.judging q.map q.given q.state q.consistent q.held in
     let t = mapped_ok _ _ _ c.test_step.result c.map_err.result c.in_ok-x.x c.map_err.ensures.cases c.test_step.ensures c.in_ok-x.was in
-    let y = judging_room q.given a.file.now a.len c.requires.len_in_bounds.0 a.count l.invariant.room l.invariant.many j _ (t.tests q.map q.given j.world.state j.walking.consistent j.held l.i-counter) in
+    let y = judging_room q.given a.p.file.now a.p.len a.p.inside a.count l.invariant.room l.invariant.many j _ (t.tests q.map q.given j.world.state j.walking.consistent j.held l.i-counter) in
     let z = c.well_formed.0.0 in
-    let w = c.requires.len_in_bounds.0 in
+    let w = a.p.inside in
     search rules
 
 pub overflow_add-o-in-loop-i : goal.overflow_add-o-in-loop-i
@@ -52,9 +52,9 @@ overflow_add-o-in-loop-i c =
     let l = c.loop-i in
     let j = l.invariant.judging q.map q.given q.state q.consistent q.held in
     let t = mapped_ok _ _ _ c.test_step.result c.map_err.result c.in_ok-x.x c.map_err.ensures.cases c.test_step.ensures c.in_ok-x.was in
-    let y = judging_room q.given a.file.now a.len c.requires.len_in_bounds.0 a.count l.invariant.room l.invariant.many j _ (t.tests q.map q.given j.world.state j.walking.consistent j.held l.i-counter) in
+    let y = judging_room q.given a.p.file.now a.p.len a.p.inside a.count l.invariant.room l.invariant.many j _ (t.tests q.map q.given j.world.state j.walking.consistent j.held l.i-counter) in
     let z = c.well_formed.0.0 in
-    let w = c.requires.len_in_bounds.0 in
+    let w = a.p.inside in
     search rules
 
 pub make_step-requires : goal.make_step-requires
@@ -64,7 +64,7 @@ make_step-requires c =
     let l = c.loop-i in
     let j = l.invariant.judging q.map q.given q.state q.consistent q.held in
     let t = mapped_ok _ _ _ c.test_step.result c.map_err.result c.in_ok-x.x c.map_err.ensures.cases c.test_step.ensures c.in_ok-x.was in
-    record { marching = judging_step q.given a.file.now a.len c.requires.len_in_bounds.0 a.count l.invariant.room l.invariant.many j _ (t.tests q.map q.given j.world.state j.walking.consistent j.held l.i-counter); chosen = t.chosen }
+    record { marching = judging_step q.given a.p.file.now a.p.len a.p.inside a.count l.invariant.room l.invariant.many j _ (t.tests q.map q.given j.world.state j.walking.consistent j.held l.i-counter); chosen = t.chosen }
 
 pub loop-i-preserved : goal.loop-i-preserved
 loop-i-preserved c =
@@ -73,18 +73,18 @@ loop-i-preserved c =
     let l = c.loop-i in
     let t = mapped_ok _ _ _ c.test_step.result c.map_err.result c.in_ok-x.x c.map_err.ensures.cases c.test_step.ensures c.in_ok-x.was in
     let j₀ = l.invariant.judging q.map q.given q.state q.consistent q.held in
-    let y = c.make_step.ensures (judging_step q.given a.file.now a.len c.requires.len_in_bounds.0 a.count l.invariant.room l.invariant.many j₀ _ (t.tests q.map q.given j₀.world.state j₀.walking.consistent j₀.held l.i-counter)) in
+    let y = c.make_step.ensures (judging_step q.given a.p.file.now a.p.len a.p.inside a.count l.invariant.room l.invariant.many j₀ _ (t.tests q.map q.given j₀.world.state j₀.walking.consistent j₀.held l.i-counter)) in
     record {
       room = y.room;
       many = y.many;
       judging = λ m d s hc x.
           let j = l.invariant.judging m d s hc x in
           let e = t.tests m d j.world.state j.walking.consistent j.held l.i-counter in
-          judging_next d a.file.now a.len c.requires.len_in_bounds.0 a.count l.invariant.room l.invariant.many j _ e c.loop-i-test.true (c.make_step.ensures (judging_step d a.file.now a.len c.requires.len_in_bounds.0 a.count l.invariant.room l.invariant.many j _ e));
+          judging_next d a.p.file.now a.p.len a.p.inside a.count l.invariant.room l.invariant.many j _ e c.loop-i-test.true (c.make_step.ensures (judging_step d a.p.file.now a.p.len a.p.inside a.count l.invariant.room l.invariant.many j _ e));
     }
 
 pub returns : goal.returns
 returns c =
     let a = c.args in
     let l = c.loop-i in
-    (l.invariant.room, l.invariant.many, λ m d s hc x. judging_end d a.file.now a.len c.requires.len_in_bounds.0 a.count l.invariant.room l.invariant.many (l.invariant.judging m d s hc x) (omega arith))
+    (l.invariant.room, l.invariant.many, λ m d s hc x. judging_end d a.p.file.now a.p.len a.p.inside a.count l.invariant.room l.invariant.many (l.invariant.judging m d s hc x) (omega arith))

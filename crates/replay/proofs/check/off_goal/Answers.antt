@@ -6,13 +6,13 @@ use Rattle.replay.proofs.check.off_goal.Goals as goal
 pub loop-i-init : goal.loop-i-init
 loop-i-init c = refl
 
-pub returns-then-v-goals : goal.returns-then-v-goals
-returns-then-v-goals c =
+pub returns-then-ne : goal.returns-then-ne
+returns-then-ne c =
     goals_off _ c.args.goals.now _ _ (search rules) (search rules) (search rules) ∙ sym c.loop-i.invariant
 
 pub loop-i-preserved : goal.loop-i-preserved
 loop-i-preserved c =
-    c.loop-i.invariant ∙ goals_next _ c.args.goals.now c.loop-i.i c.args.k (search rules) (search rules) (sym c.vertex_of-v.ensures ∙ c.if-v-goals.false)
+    c.loop-i.invariant ∙ goals_next _ c.args.goals.now c.loop-i.i c.args.k (search rules) (search rules) (search rules)
 
 pub returns : goal.returns
 returns c = goals_all _ c.args.goals.now _ _ (search rules) (search rules) ∙ sym c.loop-i.invariant

@@ -1,5 +1,5 @@
-use mathlib.Core.Path.{◌≡◌, refl, sym, ap, ◌∙◌}
-use Prim.Native.Nat.{ℕ, ◌≤◌}
+use mathlib.Core.Path.{◌≡◌, sym, ap, ◌∙◌}
+use Prim.Native.Nat.{◌≤◌}
 use native.Mathlib.Omega.{arith}
 use lib.ListN.{length}
 use borrow.Author.Rules.{rules}
@@ -16,7 +16,7 @@ walk-requires c =
     let a = c.args in
     let long : length a.starts ≡ 64 = search (rules, c.well_formed) in
     let l : a.k ≤ length a.starts = omega (arith, x.on.given.few) in
-    record { count_bound = c.payload_word-count.ensures.1; started = cleared_start a.file.now a.map.now.zones a.k a.map.now.kind a.map.now.first a.map.now.size a.map.now.listed a.map.now.zone a.map.now.place a.starts a.goals x c.payload_word-count.result _ a.out.now c.payload_word-count.ensures.0 l c.standing-state.ensures }
+    cleared_start a.file.now a.map.now.zones a.k a.map.now.kind a.map.now.first a.map.now.size a.map.now.listed a.map.now.zone a.map.now.place a.starts a.goals x c.payload_word-count.result _ a.out.now c.payload_word-count.ensures.0 l c.standing-state.ensures
 
 pub returns-in_err-made : goal.returns-in_err-made
 unfolding cleared_start

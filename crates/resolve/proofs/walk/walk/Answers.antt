@@ -5,7 +5,6 @@ use Rattle.motion.specs.World.{world}
 use Rattle.wire.specs.Payload.{payload, held_length}
 use lib.ListN.{take}
 use native.Mathlib.Omega.{arith}
-use mathlib.Core.Path.{refl, ap, ◌∙◌}
 use Rattle.resolve.proofs.walk.walk.Goals as goal
 
 pub loop-i-init : goal.loop-i-init
@@ -23,7 +22,7 @@ returns-then-over c =
 pub list_length_at-e-requires : goal.list_length_at-e-requires
 list_length_at-e-requires c =
     let a = c.args in
-    let x = c.requires.started in
+    let x = c.requires in
     let l = c.loop-i in
     let g = l.invariant.0 x in
     let h = c.loop-i-test.true in
@@ -34,7 +33,7 @@ list_length_at-e-requires c =
 pub overflow_add-next : goal.overflow_add-next
 overflow_add-next c =
     let a = c.args in
-    let x = c.requires.started in
+    let x = c.requires in
     let l = c.loop-i in
     let g = l.invariant.0 x in
     let h = c.loop-i-test.true in
@@ -46,7 +45,7 @@ overflow_add-next c =
 pub overflow_add-next-in-loop-i : goal.overflow_add-next-in-loop-i
 overflow_add-next-in-loop-i c =
     let a = c.args in
-    let x = c.requires.started in
+    let x = c.requires in
     let l = c.loop-i in
     let g = l.invariant.0 x in
     let h = c.loop-i-test.true in
@@ -58,7 +57,7 @@ overflow_add-next-in-loop-i c =
 pub payload_ahead-ahead-requires : goal.payload_ahead-ahead-requires
 payload_ahead-ahead-requires c =
     let a = c.args in
-    let x = c.requires.started in
+    let x = c.requires in
     let l = c.loop-i in
     let g = l.invariant.0 x in
     let h = c.loop-i-test.true in
@@ -70,7 +69,7 @@ payload_ahead-ahead-requires c =
 pub make_step-made-requires : goal.make_step-made-requires
 make_step-made-requires c =
     let a = c.args in
-    let x = c.requires.started in
+    let x = c.requires in
     let l = c.loop-i in
     let g = l.invariant.0 x in
     let h = c.loop-i-test.true in
@@ -82,7 +81,7 @@ make_step-made-requires c =
 pub loop-i-preserved : goal.loop-i-preserved
 loop-i-preserved c =
     let a = c.args in
-    let x = c.requires.started in
+    let x = c.requires in
     let l = c.loop-i in
     let g = l.invariant.0 x in
     let h = c.loop-i-test.true in

@@ -1,20 +1,19 @@
 use Rattle.std.proofs.Common.{refl, arith, length-set}
-use Rattle.std.proofs.lemmas.List.{get_or-set_same, get_or-set_other}
+use Rattle.std.proofs.lemmas.List.{get_or-set_same}
 use Rattle.rosters.specs.Lists.{taken_out, pair_left}
 use Rattle.rosters.proofs.lists.remove.Goals as goal
 
 pub returns-then-n-eq1 : goal.returns-then-n-eq1
 returns-then-n-eq1 c =
-    let a = c.args in
-    pair_left a.part.now a.part.now a.n a.t c.requires.0 (omega (arith, c.if-n-eq1.true)) c.requires.1 refl (λ e. absurd (omega (arith, c.if-n-eq1.true))) (λ k h. refl)
+    let p = c.args.part.now in
+    pair_left p p c.args.t c.requires refl (omega (arith, c.if-n-eq1.true)) (λ e. absurd (omega (arith, c.if-n-eq1.true)))
 
 pub returns-then-n-eq2 : goal.returns-then-n-eq2
 returns-then-n-eq2 c =
-    let a = c.args in
-    pair_left a.part.now _ a.n a.t c.requires.0 (omega (arith, c.if-n-eq2.true)) c.requires.1 (length-set a.part.now 0 _) (λ e. get_or-set_same a.part.now 0 _ 0 (omega (arith, c.requires, c.if-n-eq2.true))) (λ k h. get_or-set_other a.part.now 0 k _ 0 (λ e. omega (arith, e)))
+    let p = c.args.part.now in
+    pair_left p _ c.args.t c.requires (length-set p 0 _) (omega (arith, c.if-n-eq2.true)) (λ e. get_or-set_same p 0 _ 0 (omega (arith, e)))
 
 pub returns : goal.returns
 returns c =
-    let a = c.args in
     let b = c.copy_within.ensures in
-    taken_out a.part.now _ a.n a.t c.requires.0 c.requires.1 b.len b.by_index.1 b.by_index.0 b.by_index.2
+    taken_out c.args.part.now _ c.args.t c.requires b.len b.by_index.1 b.by_index.0
