@@ -1,21 +1,22 @@
 -- The edges of a map, read into the rows.
 use Prim.Native.Nat.{ℕ, zero, suc, ◌+◌, ◌-◌, ◌*◌, ◌≤◌, ◌<◌}
-use Rattle.std.specs.Prelude.{◌≡◌, Option, Some, None, Result, Ok, Err, OnOk, if◌then◌else◌, nat_lt, Bool, true, false, List, [], ◌∷◌, ◌++◌, length, get_or, eqb, ltb, leb}
+use Rattle.std.specs.Prelude.{◌≡◌, ◌⊎◌, Option, Some, None, Result, Ok, Err, IfOk, OnOk, if◌then◌else◌, nat_lt, Bool, true, false, List, [], ◌∷◌, ◌++◌, length, get_or, eqb, ltb, leb}
 use Rattle.std.proofs.Math.Path.{refl}
-use Rattle.std.proofs.Common.{ap, ap₂, sym, ◌∙◌, add-one}
+use Rattle.std.proofs.Common.{ap, ap₂, sym, ◌∙◌, inl, inr, add-one}
+use Rattle.std.proofs.Math.ListN.{get_or-eq_default}
 use borrow.Author.Tests.{lt-ltb, le-ltb, le-leb, lt-leb, eq-eqb, ne_eqb, ltb-true, ltb-false}
 use native.Mathlib.Omega.{arith}
 use Rattle.spec.specs.Outcome.{ok, refuse, ◌>>=◌, ◌>>◌, check, ◌and◌}
 use Rattle.spec.specs.Layout as layout
 use Rattle.spec.specs.Layout.{Edge, read_edges, edges_of}
 use Rattle.theory.specs.Basics.Outcomes.{bind}
-use Rattle.wire.specs.Payload.{place_of, word_at}
+use Rattle.wire.specs.Payload.{place_of, word_at, lt_or_ge}
 use Rattle.adjacency.specs.Rows.{join, join_all, rows_snoc, Shows, shows_more, both}
 use Rattle.zoning.specs.declared.MapFault.{MapFault}
 use Rattle.zoning.specs.declared.MapFault.TheVariants.{Short, Range, Listing}
 use Rattle.zoning.specs.Chain.{refused}
 use Rattle.zoning.specs.Fault.{number_of, fault_place, answered}
-use Rattle.zoning.specs.Bytes.{held, held_size, no_byte, a_byte, no_word, a_word}
+use Rattle.zoning.specs.Bytes.{held, held_size, no_byte, a_byte, no_word, a_word, count_of}
 
 -- a pair of payload bytes of which the first stands at `at`: where the second stands, and where the next pair begins
 pub record PlacesAre (at behind next : ℕ) : Type 0 where
@@ -34,33 +35,33 @@ edges_at file o (suc k) = edges_at file o k ++ (edge_at file (o + k * 2) ∷ [])
 -- k edges are read and entered
 pub record GoingEdges (file : List ℕ) (m n e from : ℕ) (before rows : List (List ℕ)) (k least : ℕ) : Type 0 where
   pub entered : rows ≡ join_all before (edges_at file from k)
-  pub shown : Shows before [] → Shows rows (edges_at file from k)
+  pub shown : n ≤ 128 → Shows before [] → Shows rows (edges_at file from k)
   pub rest : read_edges n (held file m) e from 0 [] ≡ read_edges n (held file m) (e - k) (from + k * 2) least (edges_at file from k)
 
 -- e edges are read and entered, or refused
-pub record EdgesAre (file : List ℕ) (m n e from : ℕ) (before rows : List (List ℕ)) (r : Result (Unit {0}) MapFault) : Type 0 where
+pub record EdgesAre (file : List ℕ) (m n e from : ℕ) (before rows : List (List ℕ)) (r : Result ℕ MapFault) : Type 0 where
   pub answer : read_edges n (held file m) e from 0 [] ≡ answered (λ _. edges_at file from e) r
+  pub behind : IfOk r (λ q. q ≡ from + e * 2)
   pub entered : OnOk r (rows ≡ join_all before (edges_at file from e))
-  pub shown : OnOk r (Shows before [] → Shows rows (edges_at file from e))
+  pub shown : OnOk r (n ≤ 128 → Shows before [] → Shows rows (edges_at file from e))
 
--- the edge count at offset o, where its two bytes are there
-abbrev pub count_of : List ℕ → ℕ → ℕ → Option ℕ
-count_of file m o = if nat_lt (o + 1) m then Some (word_at file o) else None
-
--- a count that is there
-pub counted : (file : List ℕ) (m o e : ℕ) → count_of file m o ≡ Some e → (o + 1 < m) × (e ≡ word_at file o)
-counted file m o e h = go (nat_lt (o + 1) m) refl h
+-- a count that is not 0 stands in the file
+pub counted_there : (file : List ℕ) (o : ℕ) → 0 < word_at file o → o < length file
+counted_there file o h = go (lt_or_ge o (length file))
   where
-    go : (b : Bool) → nat_lt (o + 1) m ≡ b → ◌≡◌ {A = Option ℕ} (if b then Some (word_at file o) else None) (Some e) → (o + 1 < m) × (e ≡ word_at file o)
-    go true h e = (ltb-true (o + 1) m h, cc)
-    go false h e = cc
+    go : (o < length file) ⊎ (length file ≤ o) → o < length file
+    go (inl l) = l
+    go (inr l) =
+        let a : get_or file (place_of o) 0 ≡ 0 = get_or-eq_default file 0 {n = place_of o} (omega arith) in
+        let b : get_or file (place_of (o + 1)) 0 ≡ 0 = get_or-eq_default file 0 {n = place_of (o + 1)} (omega arith) in
+        absurd (omega arith)
 
 -- the edges of a map whose zones list every vertex or not are read and entered, or refused
 pub record EdgesFound (file : List ℕ) (m n : ℕ) (covered : Bool) (o : ℕ) (before rows : List (List ℕ)) (r : Result (Unit {0}) MapFault) : Type 0 where
   pub answer : (check covered 17 o >> edges_of n (held file m) o) ≡ answered (λ _. edges_at file (o + 2) (word_at file o)) r
   pub read : OnOk r (read_edges n (held file m) (word_at file o) (o + 2) 0 [] ≡ ok (edges_at file (o + 2) (word_at file o)))
   pub entered : OnOk r (rows ≡ join_all before (edges_at file (o + 2) (word_at file o)))
-  pub shown : OnOk r (Shows before [] → Shows rows (edges_at file (o + 2) (word_at file o)))
+  pub shown : OnOk r (n ≤ 128 → Shows before [] → Shows rows (edges_at file (o + 2) (word_at file o)))
 
 edges_more : (file : List ℕ) (o k : ℕ) → edges_at file o (k + 1) ≡ edges_at file o k ++ (edge_at file (o + k * 2) ∷ [])
 unfolding edges_at
@@ -125,10 +126,10 @@ module _ (file : List ℕ) (m n e from : ℕ) (before rows : List (List ℕ)) (k
     longer : edges_at file from (k + 1) ≡ edges_at file from k ++ (record { a = a; b = b } ∷ [])
     longer = edges_more file from k ∙ ap₂ (λ (x y : ℕ). edges_at file from k ++ (record { a = x; b = y } ∷ [])) (sym is-a) (sym is_b)
 
-    pub edges_good : n ≤ 128 → a < b → b < n → least ≤ a * 256 + b → GoingEdges file m n e from before (join rows a b) (k + 1) (a * 256 + b + 1)
-    edges_good few h l q = record {
+    pub edges_good : a < b → b < n → least ≤ a * 256 + b → GoingEdges file m n e from before (join rows a b) (k + 1) (a * 256 + b + 1)
+    edges_good h l q = record {
       entered = ap (λ (r : List (List ℕ)). join r a b) g.entered ∙ sym (rows_snoc before (edges_at file from k) (record { a = a; b = b })) ∙ ap (join_all before) (sym longer);
-      shown = λ s. rw longer (shows_more rows (edges_at file from k) (record { a = a; b = b }) (g.shown s) (h, omega arith));
+      shown = λ few s. rw longer (shows_more rows (edges_at file from k) (record { a = a; b = b }) (g.shown few s) (h, omega arith));
       rest = g.rest ∙ step ∙ ap (read_edges n (held file m) (e - (k + 1)) (from + (k + 1) * 2) (a * 256 + b + 1)) (sym longer);
     }
       where
@@ -150,7 +151,7 @@ pub edges_start : (file : List ℕ) (m n e from : ℕ) (before : List (List ℕ)
 unfolding edges_at join_all
 edges_start file m n e from before = record {
   entered = refl;
-  shown = λ s. s;
+  shown = λ few s. s;
   rest = ap₂ (λ (x y : ℕ). read_edges n (held file m) x y 0 []) a1 a2;
 }
   where
@@ -161,18 +162,19 @@ edges_start file m n e from before = record {
     a2 = omega arith
 
 -- all are read
-pub edges_end : (file : List ℕ) (m n e from : ℕ) (before rows : List (List ℕ)) (least : ℕ) → GoingEdges file m n e from before rows e least → EdgesAre file m n e from before rows (Ok tt)
+pub edges_end : (file : List ℕ) (m n e from : ℕ) (before rows : List (List ℕ)) (least : ℕ) → GoingEdges file m n e from before rows e least → (q : ℕ) → q ≡ from + e * 2 → EdgesAre file m n e from before rows (Ok q)
 unfolding read_edges
-edges_end file m n e from before rows least g =
+edges_end file m n e from before rows least g q is =
     let z : e - e ≡ 0 = omega arith in
     record {
       answer = g.rest ∙ ap (λ (x : ℕ). read_edges n (held file m) x (from + e * 2) least (edges_at file from e)) z;
+      behind = is;
       entered = g.entered;
       shown = g.shown;
     }
 
 pub edges_refused : (file : List ℕ) (m n e from : ℕ) (before rows : List (List ℕ)) (f : MapFault) → read_edges n (held file m) e from 0 [] ≡ refuse (number_of f) (fault_place f) → EdgesAre file m n e from before rows (Err f)
-edges_refused file m n e from before rows f w = record { answer = w; entered = tt; shown = tt }
+edges_refused file m n e from before rows f w = record { answer = w; behind = tt; entered = tt; shown = tt }
 
 -- ---- the count before, the end behind
 
@@ -216,19 +218,19 @@ module _ (file : List ℕ) (m n : ℕ) (covered : Bool) (o : ℕ) (before rows :
         pub edges_fault : (f : MapFault) → EdgesAre file m n (word_at file o) (o + 2) before rows (Err f) → EdgesFound file m n covered o before rows (Err f)
         edges_fault f a = found_fault f (passed ∙ step ∙ refused (read_edges n (held file m) (word_at file o) (o + 2) 0 []) (number_of f) (fault_place f) _ a.answer)
 
-        module _ (a : EdgesAre file m n (word_at file o) (o + 2) before rows (Ok tt)) where
+        module _ (q : ℕ) (a : EdgesAre file m n (word_at file o) (o + 2) before rows (Ok q)) where
           last : (check covered 17 o >> edges_of n (held file m) o) ≡ (check (eqb (o + 2 + word_at file o * 2) (length (held file m))) 15 (o + 2 + word_at file o * 2) >> ok (edges_at file (o + 2) (word_at file o)))
           last = passed ∙ step ∙ bind (read_edges n (held file m) (word_at file o) (o + 2) 0 []) (edges_at file (o + 2) (word_at file o)) _ a.answer
 
           -- bytes are left
-          pub edges_surplus : (o + 2 + word_at file o * 2 ≡ m → ⊥) → EdgesFound file m n covered o before rows (Err (Short (o + 2 + word_at file o * 2)))
+          pub edges_surplus : (q ≡ m → ⊥) → EdgesFound file m n covered o before rows (Err (Short q))
           unfolding check ◌>>◌
-          edges_surplus d = found_fault (Short (o + 2 + word_at file o * 2)) (last ∙ rw (held_size file m, ne_eqb (o + 2 + word_at file o * 2) m d))
+          edges_surplus d = found_fault (Short q) (last ∙ rw (held_size file m, ← a.behind, ne_eqb q m d))
 
-          pub edges_whole : o + 2 + word_at file o * 2 ≡ m → EdgesFound file m n covered o before rows (Ok tt)
+          pub edges_whole : q ≡ m → EdgesFound file m n covered o before rows (Ok tt)
           unfolding check ◌>>◌
           edges_whole d = record {
-            answer = last ∙ rw (held_size file m, eq-eqb (o + 2 + word_at file o * 2) m d);
+            answer = last ∙ rw (held_size file m, ← a.behind, eq-eqb q m d);
             read = a.answer;
             entered = a.entered;
             shown = a.shown;

@@ -17,6 +17,15 @@ linked_by_lem kind size i j a b c d p q r s =
     ∙ ap (λ (x : Bool). linked_by a b x (eqb i 0) (eqb (j + 1) size)) r
     ∙ ap (λ (x : Bool). linked_by a b c x (eqb (j + 1) size)) s
 
+-- the number of a kind whose vertices are a line, or a ring
+abbrev pub line_number : Bool → ℕ
+line_number true = 4
+line_number false = 2
+
+pub line_not_clique : (ring : Bool) → line_number ring ≡ 3 → ⊥
+line_not_clique true e = omega arith
+line_not_clique false e = omega arith
+
 -- a clique joins any two
 pub links_any : (kind size i j : ℕ) → kind ≡ 3 → true ≡ linked kind size i j
 unfolding linked

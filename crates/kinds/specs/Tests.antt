@@ -2,7 +2,7 @@
 use Rattle.std.specs.Prelude.{ℕ, zero, suc, ◌+◌, ◌-◌, ◌<◌, ◌≡◌, refl, Bool, true, false, not, List, length, get_or, take, drop, eqb, leb}
 use Rattle.std.specs.List.{list_all}
 use mathlib.Core.Bool.{beq}
-use Rattle.std.proofs.Common.{ap, ap₂, sym, arith}
+use Rattle.std.proofs.Common.{ap, ap₂, sym, ◌∙◌, arith}
 use Rattle.spec.specs.Outcome.{◌and◌, ◌or◌, below}
 use Rattle.spec.specs.Layout.{linked, same_bool}
 use Rattle.adjacency.specs.Rows.{bit_at}
@@ -35,11 +35,6 @@ stack_test rows vs zone z = shape_test rows vs 1 and closed_test rows vs zone z
 unfoldable pub test_of : List (List ℕ) → List ℕ → List ℕ → ℕ → ℕ → Bool
 unfolding stack_test
 test_of rows vs zone z kind = elim (eqb kind 1) [ true ↦ stack_test rows vs zone z | false ↦ elim (leb 2 kind and leb kind 4) [ true ↦ shape_test rows vs kind | false ↦ false ] ]
-
--- of a zone that is inside the listing
-unfoldable pub kind_test : List (List ℕ) → List ℕ → List ℕ → ℕ → ℕ → ℕ → ℕ → Bool
-unfolding test_of
-kind_test rows listed zone z kind first size = elim (leb (first + size) 128) [ true ↦ test_of rows (take size (drop first listed)) zone z kind | false ↦ false ]
 
 -- a test of every number below n, from the last on
 pub below_more : (f : ℕ → Bool) (n : ℕ) → 0 < n → f (n - 1) ≡ true → below f n ≡ below f (n - 1)
@@ -98,12 +93,29 @@ agree {x} {y} d e h = rw (← d, ← e) (go x y h)
     go false true h = sym h
     go false false h = refl
 
--- a stack is shaped, and closed
-module _ (rows : List (List ℕ)) (vs zone : List ℕ) (z : ℕ) where
-  pub stack_not : shape_test rows vs 1 ≡ false → false ≡ stack_test rows vs zone z
-  unfolding stack_test ◌and◌
-  stack_not e = sym (ap (λ (b : Bool). b and closed_test rows vs zone z) e)
+-- a stack's edges are those of a line, as a hall's
+stack_shape : (rows : List (List ℕ)) (vs : List ℕ) → shape_test rows vs 2 ≡ shape_test rows vs 1
+unfolding linked
+stack_shape rows vs = refl
 
-  pub stack_shaped : shape_test rows vs 1 ≡ true → closed_test rows vs zone z ≡ stack_test rows vs zone z
-  unfolding stack_test ◌and◌
-  stack_shaped e = sym (ap (λ (b : Bool). b and closed_test rows vs zone z) e)
+-- the tests of the kinds: a stack is shaped, and closed
+module _ (rows : List (List ℕ)) (vs zone : List ℕ) (z : ℕ) where
+  pub stack_not : shape_test rows vs 2 ≡ false → false ≡ test_of rows vs zone z 1
+  unfolding test_of stack_test ◌and◌
+  stack_not e = sym (ap (λ (b : Bool). b and closed_test rows vs zone z) (sym (stack_shape rows vs) ∙ e))
+
+  pub stack_shaped : shape_test rows vs 2 ≡ true → closed_test rows vs zone z ≡ test_of rows vs zone z 1
+  unfolding test_of stack_test ◌and◌
+  stack_shaped e = sym (ap (λ (b : Bool). b and closed_test rows vs zone z) (sym (stack_shape rows vs) ∙ e))
+
+  pub hall_shaped : shape_test rows vs 2 ≡ test_of rows vs zone z 2
+  unfolding test_of ◌and◌
+  hall_shaped = refl
+
+  pub clique_shaped : shape_test rows vs 3 ≡ test_of rows vs zone z 3
+  unfolding test_of ◌and◌
+  clique_shaped = refl
+
+  pub ring_shaped : shape_test rows vs 4 ≡ test_of rows vs zone z 4
+  unfolding test_of ◌and◌
+  ring_shaped = refl

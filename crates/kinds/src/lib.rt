@@ -8,10 +8,20 @@ ghost use Rattle.spec.specs.Layout.{linked};
 ghost use Rattle.kinds.specs.Words.{out_from};
 ghost use Rattle.kinds.specs.Marks.{mark_word, meet_test, apart_test};
 ghost use Rattle.kinds.specs.Places.{Between};
-ghost use Rattle.kinds.specs.Tests.{row_test, shape_test, kind_test};
+ghost use Rattle.kinds.specs.Tests.{row_test, shape_test, test_of};
+ghost use Rattle.kinds.specs.Links.{line_number};
 
-use adjacency::joined;
+use adjacency::{Rows, joined};
 use numbering::{Vertex, Zone, ZoneKind};
+
+// A zone as it was read: its number and kind, its vertices in listed order, and the zone of each vertex of the map.
+#[derive(Clone, Copy)]
+pub struct ListedZone<'a> {
+    pub number: Zone,
+    pub kind: ZoneKind,
+    pub vertices: &'a [u8],
+    pub zone_of: &'a [u8; 128],
+}
 
 // A set of vertices: a bit for each below 64, and for each from 64 on.
 #[derive(Clone, Copy)]
@@ -50,22 +60,22 @@ impl Vertices {
     }
 
     // Is vertex v joined to each of them?
-    fn all_joined(&self, rows: &[[u64; 2]; 128], v: u8) -> bool
+    fn all_joined(&self, rows: &Rows, v: u8) -> bool
         requires { v < 128 }
         ensures { result ≡ meet_test rows.now self.now.low self.now.high v }
     {
-        let row = &rows[v as usize];
+        let row = &rows.words()[v as usize];
         row[0] & self.low == self.low && row[1] & self.high == self.high
     }
 
     // Is vertex v joined to none of them?
-    fn none_joined(&self, rows: &[[u64; 2]; 128], v: u8) -> bool
+    fn none_joined(&self, rows: &Rows, v: u8) -> bool
         ensures { result ≡ apart_test rows.now self.now.low self.now.high v }
     {
         if v >= 128 {
             return true;
         }
-        let row = &rows[v as usize];
+        let row = &rows.words()[v as usize];
         row[0] & self.low == 0 && row[1] & self.high == 0
     }
 }
@@ -82,20 +92,17 @@ fn outside_word(zone: &[u8; 128], z: u8, from: usize) -> u64
     word
 }
 
-// Is place j of a zone, from 1 on, joined to the first inside it, by its kind, which is no clique?
-fn first_linked(kind: ZoneKind, size: usize, j: usize) -> bool
-    requires { (number_of kind ≡ 3 → ⊥) × (0 < j) × (j < 256) }
-    ensures { result ≡ linked (number_of kind) size 0 j }
+// Is place j, from 1 on, of a line of vertices, or of a ring, joined to the first?
+fn first_linked(ring: bool, size: usize, j: usize) -> bool
+    requires { (0 < j) × (j < size) }
+    ensures { result ≡ linked (line_number ring) size 0 j }
 {
     let next = j == 1;
-    match kind {
-        ZoneKind::Ring => next || j + 1 == size,
-        _ => next,
-    }
+    next || ring && j + 1 == size
 }
 
 // Are any two places of a clique joined?
-fn clique_ok(rows: &[[u64; 2]; 128], vertices: &[u8]) -> bool
+fn clique_ok(rows: &Rows, vertices: &[u8]) -> bool
     ensures { result ≡ shape_test rows.now vertices.now 3 }
 {
     let mut before = Vertices::none();
@@ -111,37 +118,30 @@ fn clique_ok(rows: &[[u64; 2]; 128], vertices: &[u8]) -> bool
     true
 }
 
-// Is place j of a stack, hall or ring joined to the place before it, to the first as the kind has it, and to none between?
-fn row_ok(
-    rows: &[[u64; 2]; 128],
-    vertices: &[u8],
-    kind: ZoneKind,
-    j: usize,
-    between: Vertices,
-) -> bool
-    requires fact { (number_of kind ≡ 3 → ⊥) × (0 < j) × (j < length vertices.now) × (length vertices.now ≤ 128) }
+// Is place j of a line, or of a ring, joined to the place before it, to the first as it should be, and to none between?
+fn row_ok(rows: &Rows, vertices: &[u8], ring: bool, j: usize, between: Vertices) -> bool
+    requires place { (0 < j) × (j < length vertices.now) }
     requires between { Between rows.now vertices.now between.low between.high j }
-    ensures { result ≡ row_test rows.now vertices.now (number_of kind) j }
+    ensures { result ≡ row_test rows.now vertices.now (line_number ring) j }
 {
     let v = vertices[j];
-    if !joined(rows, Vertex(v), Vertex(vertices[j - 1])) {
+    if !joined(rows.words(), Vertex(v), Vertex(vertices[j - 1])) {
         return false;
     }
-    let first = joined(rows, Vertex(v), Vertex(vertices[0]));
-    if first != first_linked(kind, vertices.len(), j) {
+    let first = joined(rows.words(), Vertex(v), Vertex(vertices[0]));
+    if first != first_linked(ring, vertices.len(), j) {
         return false;
     }
     between.none_joined(rows, v)
 }
 
-// Are the edges inside a stack, hall or ring those of its kind?
-fn line_ok(rows: &[[u64; 2]; 128], vertices: &[u8], kind: ZoneKind) -> bool
-    requires { (number_of kind ≡ 3 → ⊥) × (length vertices.now ≤ 128) }
-    ensures { result ≡ shape_test rows.now vertices.now (number_of kind) }
+// Are the edges inside a zone those of a line, as of a stack or hall, or of a ring?
+fn line_ok(rows: &Rows, vertices: &[u8], ring: bool) -> bool
+    ensures { result ≡ shape_test rows.now vertices.now (line_number ring) }
 {
     let mut between = Vertices::none();
     for j in 1..vertices.len() {
-        if !row_ok(rows, vertices, kind, j, between) {
+        if !row_ok(rows, vertices, ring, j, between) {
             return false;
         }
         if j > 1 {
@@ -151,19 +151,8 @@ fn line_ok(rows: &[[u64; 2]; 128], vertices: &[u8], kind: ZoneKind) -> bool
     true
 }
 
-// Are the edges inside a zone those of its kind?
-fn shape_ok(rows: &[[u64; 2]; 128], vertices: &[u8], kind: ZoneKind) -> bool
-    requires { length vertices.now ≤ 128 }
-    ensures { result ≡ shape_test rows.now vertices.now (number_of kind) }
-{
-    match kind {
-        ZoneKind::Clique => clique_ok(rows, vertices),
-        _ => line_ok(rows, vertices, kind),
-    }
-}
-
 // Does no edge lead out of the zone but from its first vertex?
-fn closed_ok(rows: &[[u64; 2]; 128], vertices: &[u8], zone: &[u8; 128], z: u8) -> bool
+fn closed_ok(rows: &Rows, vertices: &[u8], zone: &[u8; 128], z: u8) -> bool
     ensures { result ≡ list_all (apart_test rows.now (out_from zone.now z 0 64) (out_from zone.now z 64 64)) (drop 1 vertices.now) }
 {
     let outside = Vertices::outside(zone, z);
@@ -173,24 +162,17 @@ fn closed_ok(rows: &[[u64; 2]; 128], vertices: &[u8], zone: &[u8; 128], z: u8) -
         .all(|v| outside.none_joined(rows, *v))
 }
 
-// Is zone z, whose `size` vertices stand in `listed` from `first` on, of its kind?
-pub fn of_kind(
-    rows: &[[u64; 2]; 128],
-    listed: &[u8; 128],
-    zone: &[u8; 128],
-    z: Zone,
-    kind: ZoneKind,
-    first: usize,
-    size: usize,
-) -> bool
-    ensures { result ≡ kind_test rows.now listed.now zone.now z.0 (number_of kind) first size }
+// Is a zone of its kind?
+pub fn of_kind(rows: &Rows, zone: &ListedZone) -> bool
+    ensures { result ≡ test_of rows.now zone.now.vertices.now zone.now.zone_of.now zone.now.number.0 (number_of zone.now.kind) }
 {
-    if first > 128 || size > 128 - first {
-        return false;
-    }
-    let vertices = &listed[first..first + size];
-    match kind {
-        ZoneKind::Stack => shape_ok(rows, vertices, kind) && closed_ok(rows, vertices, zone, z.0),
-        _ => shape_ok(rows, vertices, kind),
+    let vertices = zone.vertices;
+    match zone.kind {
+        ZoneKind::Stack => {
+            line_ok(rows, vertices, false) && closed_ok(rows, vertices, zone.zone_of, zone.number.0)
+        }
+        ZoneKind::Hall => line_ok(rows, vertices, false),
+        ZoneKind::Clique => clique_ok(rows, vertices),
+        ZoneKind::Ring => line_ok(rows, vertices, true),
     }
 }

@@ -10,7 +10,7 @@ use Rattle.theory.specs.Basics.Lists.{get_d_default}
 use Rattle.theory.specs.Maps.Listing as listing
 use Rattle.theory.specs.Maps.Layout.{no_edge, read_edges_lem, has_edge_lem}
 use Rattle.adjacency.specs.Rows.{Shows, same_test}
-use Rattle.kinds.specs.Tests.{kind_test}
+use Rattle.kinds.specs.Tests.{test_of}
 use Rattle.kinds.specs.Shape.{part, part_length}
 use Rattle.kinds.specs.Closed.{Stack}
 use Rattle.kinds.specs.Kind.{kind_is}
@@ -21,19 +21,18 @@ use Rattle.zoning.specs.Found.{ZonesHeld}
 -- the rows show the map's edges, and each zone in the arrays may be tested
 pub record Ready (rows : List (List ℕ)) (m : Map) (h : Heads) (l zone : List ℕ) (c : ℕ) : Type 0 where
   pub shows : Shows rows m.edges
-  pub long : length l ≡ 128
-  pub kinds : (j : ℕ) → j < c → (1 ≤ get_or h.kind j 0) × (get_or h.kind j 0 ≤ 4) × (get_or h.first j 0 + get_or h.size j 0 ≤ 128)
+  pub kinds : (j : ℕ) → j < c → (1 ≤ get_or h.kind j 0) × (get_or h.kind j 0 ≤ 4)
   pub stacks : (j : ℕ) → j < c → Stack m (part l (get_or h.first j 0) (get_or h.size j 0)) zone j
 
 -- the test that the code makes of zone i
 abbrev pub test_at : List (List ℕ) → Heads → List ℕ → List ℕ → ℕ → Bool
-test_at rows h l zone i = kind_test rows l zone i (get_or h.kind i 0) (get_or h.first i 0) (get_or h.size i 0)
+test_at rows h l zone i = test_of rows (part l (get_or h.first i 0) (get_or h.size i 0)) zone i (get_or h.kind i 0)
 
 module _ (rows : List (List ℕ)) (m : Map) (h : Heads) (l zone : List ℕ) (c i : ℕ) (r : Ready rows m h l zone c) (low : i < c) where
   test_is : test_at rows h l zone i ≡ of_kind m (zone_in h l i)
   test_is =
       let k = r.kinds i low in
-      kind_is rows m l zone i (get_or h.kind i 0) (get_or h.first i 0) (get_or h.size i 0) k.0 k.1 k.2 r.long r.shows (r.stacks i low)
+      kind_is rows m (part l (get_or h.first i 0) (get_or h.size i 0)) zone i (get_or h.kind i 0) k.0 k.1 r.shows (r.stacks i low)
 
   next : drop i (zones_in h l c) ≡ zone_in h l i ∷ drop (suc i) (zones_in h l c)
   next = drop-cons (zones_in h l c) i no_zone (omega (arith, zones_length h l c)) ∙ ap (λ (z : Zone). z ∷ drop (suc i) (zones_in h l c)) (zones_at h l c i low)
@@ -109,8 +108,8 @@ module _ (p : List ℕ) (n c : ℕ) (small : n ≤ 128) (few : c ≤ 64) (h : He
     fresh : (seen : List ℕ) × listing.Fresh n seen (zone_in h l j).vertices
     fresh = let f = listing.zones_fresh zoned j lower in (f.0, rw here at f.1)
 
-    kind_range : (1 ≤ get_or h.kind j 0) × (get_or h.kind j 0 ≤ 4) × (get_or h.first j 0 + get_or h.size j 0 ≤ 128)
-    kind_range = let k = listing.zones_kind zoned j lower in ((rw here at k.0), (rw here at k.1), held.inside j low)
+    kind_range : (1 ≤ get_or h.kind j 0) × (get_or h.kind j 0 ≤ 4)
+    kind_range = let k = listing.zones_kind zoned j lower in ((rw here at k.0), (rw here at k.1))
 
   -- no zone is empty
   pub zone_some : (j : ℕ) → j < c → 1 ≤ get_or h.size j 0
@@ -124,7 +123,6 @@ module _ (p : List ℕ) (n c : ℕ) (small : n ≤ 128) (few : c ≤ 64) (h : He
       → Ready rows (record { size = n; zones = zones_in h l c; edges = es }) h l zone c
   ready rows e from es w s = record {
     shows = s;
-    long = held.long_listed;
     kinds = kind_range;
     stacks = λ j low. record {
       proper = λ a b t. let q = has_edge_lem (read_edges_lem n p e from 0 [] es no_edge w) a b (of_true t) in (q.0, omega arith);

@@ -1,25 +1,19 @@
 -- The whole map: what was read is the map that the definition gives.
-use Rattle.std.specs.Prelude.{ℕ, ◌+◌, ◌*◌, ◌/◌, ◌≤◌, ◌<◌, ◌≡◌, refl, Result, Ok, Err, IfOk, OnOk, is_err, true, false, List, [], map, length, get_or, take, drop}
+use Rattle.std.specs.Prelude.{ℕ, ◌+◌, ◌≤◌, ◌<◌, ◌≡◌, refl, Result, Ok, Err, IfOk, OnOk, is_err, true, false, List, [], map, length, get_or, take, drop}
 use Rattle.std.proofs.Common.{ap, sym, ◌∙◌}
-use Rattle.spec.specs.Outcome.{Outcome, ok, refuse, ◌>>=◌, index_of}
-use Rattle.spec.specs.Wire.{payload_of}
-use Rattle.spec.specs.Layout.{Map, Edge, map_of, zone_of, zone_at}
-use Rattle.wire.specs.Payload.{payload}
+use Rattle.spec.specs.Outcome.{Outcome, ok, refuse, index_of}
+use Rattle.spec.specs.Layout.{Map, Edge, zone_of, zone_at}
 use Rattle.adjacency.specs.Rows.{blank, rows_of, join_all, Shows, shows_none}
 use Rattle.numbering.specs.Kind as kinds
 use Rattle.zoning.specs.declared.MapFault.{MapFault}
 use Rattle.zoning.specs.declared.Zones.{Zones}
 use Rattle.layout.specs.declared.MapTables.{MapTables}
 use Rattle.zoning.specs.Fault.{number_of, fault_place, answered}
-use Rattle.zoning.specs.Bytes.{held, held_payload}
+use Rattle.zoning.specs.Bytes.{held}
 use Rattle.zoning.specs.Zones.{zones_length, zones_at, place_from}
 use Rattle.zoning.specs.Found.{ZonesAre, heads_of}
 use Rattle.layout.specs.Kinds.{zone_some}
 use Rattle.layout.specs.Rest.{map_at, rest_of, edges_in, RestIs}
-
--- the map in a file, or its refusal
-abbrev pub map_in : List ℕ → Outcome Map
-map_in file = payload_of 10 1 9 file >>= map_of
 
 -- the map of no vertices, which stands for a map that is refused
 abbrev pub no_map : Map
@@ -133,10 +127,3 @@ cleared_is outcome (Err f) rows last e l k =
       entered = k ∙ ap (λ (m : Map). rows_of m.edges) none;
       shown = rw (k, ← none) shows_none;
     }
-
--- ---- the file
-
--- the map in a file whose blocks have passed is that of its payload
-pub file_map : (file : List ℕ) (m : ℕ) → payload_of 10 1 9 file ≡ ok (take m (payload file)) → m ≤ length file / 512 * 504 → map_in file ≡ map_of (held file m)
-unfolding ◌>>=◌
-file_map file m e h = ap (λ (o : Outcome (List ℕ)). o >>= map_of) e ∙ ap map_of (held_payload file m h)

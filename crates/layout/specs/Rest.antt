@@ -80,7 +80,7 @@ module _ (file : List ℕ) (m n : ℕ) (t : Zones) (z : ℕ) (small : n ≤ 128)
   module _ (edges : EdgesFound file m n covered t.next blank rows (Ok tt)) where
     -- the zones may be tested
     pub rest_ready : Ready rows (map_at n t z (edges_in file t)) (heads_of t) t.listed t.zone z
-    rest_ready = ready (held file m) n z small few (heads_of t) t.listed t.zone t.place t.next found.answer found.tables rows (word_at file t.next) (t.next + 2) (edges_in file t) edges.read (edges.shown shows_none)
+    rest_ready = ready (held file m) n z small few (heads_of t) t.listed t.zone t.place t.next found.answer found.tables rows (word_at file t.next) (t.next + 2) (edges_in file t) edges.read (edges.shown small shows_none)
 
     step : rest_of (held file m) n t z ≡ (kinds_from (map_at n t z (edges_in file t)) 0 (zones_in (heads_of t) t.listed z) >> ok (map_at n t z (edges_in file t)))
     unfolding rest_of
@@ -90,7 +90,7 @@ module _ (file : List ℕ) (m n : ℕ) (t : Zones) (z : ℕ) (small : n ≤ 128)
     rest_tested (Ok u) kinds = record {
       answer = step ∙ after (kinds_from (map_at n t z (edges_in file t)) 0 (zones_in (heads_of t) t.listed z)) tt _ kinds;
       entered = edges.entered;
-      shown = edges.shown shows_none;
+      shown = edges.shown small shows_none;
     }
     rest_tested (Err f) kinds = record {
       answer = step ∙ refused_on (kinds_from (map_at n t z (edges_in file t)) 0 (zones_in (heads_of t) t.listed z)) (number_of f) (fault_place f) _ kinds;

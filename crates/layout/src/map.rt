@@ -1,72 +1,67 @@
 // The whole map.
-ghost use Rattle.std.specs.Prelude.{◌≡◌, Ok, ◌≤◌};
+ghost use Rattle.std.specs.Prelude.{◌≡◌, Ok};
 ghost use Rattle.spec.specs.Layout.{Map, kinds_from, map_of};
-ghost use Rattle.adjacency.specs.Rows.{blank};
 ghost use Rattle.zoning.specs.Fault.{answered};
-ghost use Rattle.zoning.specs.Bytes.{held};
+ghost use Rattle.zoning.specs.Bytes.{bytes};
 ghost use Rattle.zoning.specs.Zones.{zones_in};
-ghost use Rattle.zoning.specs.Found.{heads_of, ZonesAre};
+ghost use Rattle.zoning.specs.Found.{heads_of, ZonesAre, ZonesHeld};
 ghost use Rattle.layout.specs.Kinds.{Ready};
 ghost use Rattle.layout.specs.Map.{LayoutIs, MapIs};
 ghost use Rattle.layout.specs.Rest.{RestIs};
 
 use crate::MapTables;
+use adjacency::Rows;
 use edging::edges::edges_of;
+use kinds::{ListedZone, of_kind};
 use numbering::Zone;
 use zoning::heads::read_counts;
 use zoning::reading::{covered, read_zones};
-use zoning::{Counts, MapFault, Zones};
+use zoning::{Counts, MapFault, PayloadBytes, Zones};
 
 // The lowest zone that is not of its kind.
-fn test_kinds(rows: &[[u64; 2]; 128], zones: &Zones, count: usize) -> Result<(), MapFault>
-    requires { count ≤ 64 }
-    ensures { (m : Map) → Ready rows.now m (heads_of zones.now) zones.now.listed zones.now.zone count → kinds_from m 0 (zones_in (heads_of zones.now) zones.now.listed count) ≡ answered (λ _. tt) result }
+fn test_kinds(rows: &Rows, zones: &Zones, counts: Counts) -> Result<(), MapFault>
+    requires { ZonesHeld (heads_of zones.now) zones.now.listed zones.now.zone zones.now.place counts.zones }
+    ensures { (m : Map) → Ready rows.now m (heads_of zones.now) zones.now.listed zones.now.zone counts.zones → kinds_from m 0 (zones_in (heads_of zones.now) zones.now.listed counts.zones) ≡ answered (λ _. tt) result }
 {
-    for i in 0..count {
-        let first = zones.first[i] as usize;
-        let size = zones.size[i] as usize;
-        if !kinds::of_kind(
-            rows,
-            &zones.listed,
-            &zones.zone,
-            Zone(i as u8),
-            zones.kind[i],
-            first,
-            size,
-        ) {
-            return Err(MapFault::Kind(i));
+    for i in 0..counts.zones {
+        let z = i as usize;
+        let first = zones.first[z] as usize;
+        let zone = ListedZone {
+            number: Zone(i),
+            kind: zones.kind[z],
+            vertices: &zones.listed[first..first + zones.size[z] as usize],
+            zone_of: &zones.zone,
+        };
+        if !of_kind(rows, &zone) {
+            return Err(MapFault::Kind(z));
         }
     }
     Ok(())
 }
 
-// Reads the edges behind the zones, and tests the zones' kinds.
+// Reads the edges behind the zones into the rows, and tests the zones' kinds.
 fn read_rest(
-    file: &[u8],
-    m: usize,
-    n: usize,
+    payload: &PayloadBytes,
+    counts: Counts,
     zones: &Zones,
-    count: usize,
-    rows: &mut [[u64; 2]; 128],
+    rows: &mut Rows,
 ) -> Result<(), MapFault>
-    requires m_bound { (m ≤ 65000) × (n ≤ 128) × (count ≤ 64) }
-    requires zones_are { ZonesAre (held file.now m) n count (Ok zones.now) × (rows.old ≡ blank) }
-    ensures { RestIs file.now m n zones.now count rows.new result }
+    requires { ZonesAre (bytes payload.now) counts.vertices counts.zones (Ok zones.now) }
+    ensures { RestIs payload.now.file.now payload.now.len counts.vertices zones.now counts.zones rows.new result }
 {
-    edges_of(file, m, n, covered(&zones.zone, n), zones.next, rows)?;
-    test_kinds(rows, zones, count)
+    let n = counts.vertices as usize;
+    rows.clear();
+    edges_of(payload, n, covered(&zones.zone, n), zones.next, rows)?;
+    test_kinds(rows, zones, counts)
 }
 
-// Reads a map from a payload of m bytes; where it is refused, the rows are of no use.
-fn read_layout(file: &[u8], m: usize, rows: &mut [[u64; 2]; 128]) -> Result<MapTables, MapFault>
-    requires { (m ≤ 65000) × (rows.old ≡ blank) }
-    ensures { LayoutIs (map_of (held file.now m)) result rows.new }
+// Reads a map from its payload; where it is refused, the rows are of no use.
+fn read_layout(payload: &PayloadBytes, rows: &mut Rows) -> Result<MapTables, MapFault>
+    ensures { LayoutIs (map_of (bytes payload.now)) result rows.new }
 {
-    let Counts { vertices, zones } = read_counts(file, m)?;
-    let n = vertices as usize;
-    let count = zones as usize;
-    let read = read_zones(file, m, n, count)?;
-    read_rest(file, m, n, &read, count, rows)?;
+    let counts = read_counts(payload)?;
+    let read = read_zones(payload, counts)?;
+    read_rest(payload, counts, &read, rows)?;
     let Zones {
         kind,
         first,
@@ -77,8 +72,8 @@ fn read_layout(file: &[u8], m: usize, rows: &mut [[u64; 2]; 128]) -> Result<MapT
         ..
     } = read;
     Ok(MapTables {
-        vertices,
-        zones,
+        vertices: counts.vertices,
+        zones: counts.zones,
         kind,
         first,
         size,
@@ -88,14 +83,14 @@ fn read_layout(file: &[u8], m: usize, rows: &mut [[u64; 2]; 128]) -> Result<MapT
     })
 }
 
-// Reads a map from a payload of m bytes: the map, with its edges in the rows; or why it is refused, with no edge in the rows.
-pub fn read_map(file: &[u8], m: usize, rows: &mut [[u64; 2]; 128]) -> Result<MapTables, MapFault>
-    requires { (m ≤ 65000) × (rows.old ≡ blank) }
-    ensures { MapIs (map_of (held file.now m)) result rows.new }
+// Reads a map from its payload: the map, with its edges in the rows; or why it is refused, with no edge in the rows.
+// The rows are the caller's: in the map's tables they are copied at each return, which makes reading a small map slower than it may be.
+pub fn read_map(payload: &PayloadBytes, rows: &mut Rows) -> Result<MapTables, MapFault>
+    ensures { MapIs (map_of (bytes payload.now)) result rows.new }
 {
-    let read = read_layout(file, m, rows);
+    let read = read_layout(payload, rows);
     if read.is_err() {
-        adjacency::clear(rows);
+        rows.clear();
     }
     read
 }

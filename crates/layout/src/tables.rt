@@ -71,12 +71,11 @@ impl MapTables {
         self.first[z.0 as usize] as usize
     }
 
-    // The size of a zone.
+    // The size of a zone; 0 where there is none.
     pub fn size_of(&self, z: Zone) -> usize
-        requires { z.0 < 64 }
         ensures { result ≡ get_or self.now.size z.0 0 }
     {
-        self.size[z.0 as usize] as usize
+        entry(&self.size, z.0 as usize, 0) as usize
     }
 
     // The vertices of a zone in listed order.

@@ -27,7 +27,6 @@ use Rattle.placing.specs.declared.PlacingFault.{PlacingFault}
 use Rattle.placing.specs.Placing.{placing_in, placing_or, PlacingHeld, PlacingIs}
 use Rattle.placing.specs.declared.PlacingTables.{PlacingTables}
 use Rattle.wire.specs.Payload.{payload, held_length, held_byte}
-use Rattle.checking.specs.Checked.{Whole}
 use Rattle.replay.specs.Moves.{move_by, moves_by, bytes_of, file_bytes, moves_same, moves_length}
 use Rattle.replay.specs.Check.{move_list_of}
 use Rattle.replay.specs.declared.ListFault.{ListFault}
@@ -35,6 +34,7 @@ use Rattle.drawing.specs.Drawn.{EndsOn}
 use Rattle.refusals.specs.declared.Refusal.{Refusal}
 use Rattle.refusals.specs.declared.Refusal.TheVariants as refusal
 use Rattle.refusals.specs.Refusals.{place_of, refused, list_refused}
+use Rattle.opening.specs.declared.filed.FiledMap.{FiledMap}
 use Rattle.opening.specs.declared.Opened.{Opened}
 use Rattle.opening.specs.declared.Yard.{Yard}
 
@@ -111,14 +111,9 @@ pub record ListRead (a b c : List ℕ) (map : MapTables) (placing : PlacingTable
   pub robots : PlacingHeld placing it.placing
   pub ends : EndsOn it.graph (file_bytes c) n
 
--- the blocks of a map have passed, and its payload has len bytes
-pub record MapFiled (a : List ℕ) (len : ℕ) : Type 0 where
-  pub read : payload_of 10 1 9 a ≡ ok (take len (payload a))
-  pub whole : Whole 9 a len
-
--- they have, or one is refused
-abbrev pub FiledIs : List ℕ → Result ℕ Refusal → Type 0
-FiledIs a (Ok len) = MapFiled a len
+-- the blocks of a map have passed, or one is refused
+abbrev pub FiledIs : List ℕ → Result FiledMap Refusal → Type 0
+FiledIs a (Ok f) = f.file.now ≡ a
 FiledIs a (Err e) = payload_of 10 1 9 a ≡ refused e
 
 -- a map and a placing that are accepted, as the code holds them
@@ -210,13 +205,9 @@ module _ (a b : List ℕ) where
   }
 
   -- they have passed, with a payload of len bytes
-  module _ (len : ℕ) (read : payload_of 10 1 9 a ≡ ok (take len (payload a))) (w : Whole 9 a len) where
-    -- which are few
-    pub filed_few : len ≤ 65000
-    filed_few = omega (arith, w.most, w.limited)
-
+  module _ (len : ℕ) (read : payload_of 10 1 9 a ≡ ok (take len (payload a))) (most : len ≤ length a / 512 * 504) where
     filed_map : map_of (take len (payload a)) ≡ map_of (held a len)
-    filed_map = ap map_of (held_payload a len w.most)
+    filed_map = ap map_of (held_payload a len most)
 
     -- the map is refused
     pub map_refused : (rows : List (List ℕ)) (e : MapFault) → Bytes a → MapIs (map_of (held a len)) (Err e) rows → RefusedAs (instance_of a b) (refusal.Map e)

@@ -1,16 +1,19 @@
 // Map, placing and move list, read and checked in document 01's order of files.
 #![tactic(auto)]
 
-ghost use Rattle.std.specs.Prelude.{◌≡◌};
-ghost use Rattle.adjacency.specs.Rows.{blank};
-ghost use Rattle.opening.specs.Opened.{FiledIs, MapFiled, OpenedIs, YardIs};
+ghost use Rattle.opening.specs.Opened.{FiledIs, OpenedIs, YardIs};
 
+mod filed;
+
+use adjacency::Rows;
 use checking::check_file;
+pub use filed::FiledMap;
 use layout::{MapTables, read_map};
 use placing::{PlacingTables, read_placing};
 use refusals::Refusal;
 use replay::{Graph, check_moves};
 use wire::{FileKind, FiledPayload};
+use zoning::PayloadBytes;
 
 // A map and a placing that are accepted.
 #[derive(Drop)]
@@ -26,26 +29,23 @@ pub struct Opened {
     pub count: u16,
 }
 
-// How long the payload of a map is whose blocks have passed. Asked before rows and tables are made ready, which a refusal here does not need.
-pub fn check_map(map: &[u8]) -> Result<usize, Refusal>
+// A map's payload, where its blocks pass. Asked before rows and tables are made ready, which a refusal here does not need.
+pub fn check_map(map: &[u8]) -> Result<FiledMap<'_>, Refusal>
     ensures { FiledIs map.now result }
 {
     let len = check_file(map, FileKind::Map).map_err(Refusal::MapFile)?;
-    Ok(len)
+    Ok(FiledMap { file: map, len })
 }
 
-// Reads map and placing, where the map's blocks have passed; the rows are the map's edges.
-pub fn read_yard(
-    map: &[u8],
-    len: usize,
-    placed: &[u8],
-    rows: &mut [[u64; 2]; 128],
-) -> Result<Yard, Refusal>
-    requires filed { MapFiled map.now len }
-    requires blank { rows.old ≡ blank }
-    ensures { YardIs map.now placed.now rows.new result }
+// Reads map and placing; the rows are the map's edges.
+pub fn read_yard(map: &FiledMap, placed: &[u8], rows: &mut Rows) -> Result<Yard, Refusal>
+    ensures { YardIs map.now.file.now placed.now rows.new result }
 {
-    let tables = read_map(map, len, rows)?;
+    let payload = PayloadBytes {
+        file: map.file,
+        len: map.len,
+    };
+    let tables = read_map(&payload, rows)?;
     let placing = read_placing(placed, tables.vertices())?;
     Ok(Yard {
         map: tables,
@@ -53,19 +53,18 @@ pub fn read_yard(
     })
 }
 
-// Reads map, placing and move list, where the map's blocks have passed, and checks the moves.
-fn open_filed(map: &[u8], len: usize, placed: &[u8], moves: &[u8]) -> Result<Opened, Refusal>
-    requires { MapFiled map.now len }
-    ensures { OpenedIs map.now placed.now moves.now result }
+// Reads map, placing and move list, and checks the moves.
+fn open_filed(map: &FiledMap, placed: &[u8], moves: &[u8]) -> Result<Opened, Refusal>
+    ensures { OpenedIs map.now.file.now placed.now moves.now result }
 {
-    let mut rows = [[0u64; 2]; 128];
-    let yard = read_yard(map, len, placed, &mut rows)?;
+    let mut rows = Rows::blank();
+    let yard = read_yard(map, placed, &mut rows)?;
     let len = check_file(moves, FileKind::Moves).map_err(Refusal::ListFile)?;
     let list = FiledPayload { file: moves, len };
     let vertices = yard.map.vertices();
     let graph = Graph {
         vertices,
-        rows: &rows,
+        rows: rows.words(),
     };
     let PlacingTables {
         robots,
@@ -81,5 +80,5 @@ pub fn open_list(map: &[u8], placed: &[u8], moves: &[u8]) -> Result<Opened, Refu
     ensures { OpenedIs map.now placed.now moves.now result }
 {
     let filed = check_map(map)?;
-    open_filed(map, filed, placed, moves)
+    open_filed(&filed, placed, moves)
 }

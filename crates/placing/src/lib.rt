@@ -3,13 +3,13 @@
 
 ghost use Rattle.std.specs.Prelude.{◌≡◌, ℕ, List, ◌≤◌};
 ghost use Rattle.spec.specs.Layout.{Map, placing_of};
-ghost use Rattle.zoning.specs.Bytes.{held};
+ghost use Rattle.zoning.specs.Bytes.{bytes};
 ghost use Rattle.placing.specs.declared.PlacingFault.TheVariants.{File};
 ghost use Rattle.placing.specs.Placing.{placing_in, Marked, VertexIs, RobotsAre, PlacingIs};
 
 use checking::{FileFault, check_file};
 use wire::FileKind;
-use zoning::byte;
+use zoning::PayloadBytes;
 
 // Why a placing is refused, with the block or the payload offset.
 #[derive(Clone, Copy, Debug, PartialEq, Eq)]
@@ -39,16 +39,15 @@ pub struct PlacingTables {
 
 // Reads the vertex at offset o, and marks it; the fault is of one that is not below n, or marked.
 fn read_vertex(
-    file: &[u8],
-    m: usize,
+    payload: &PayloadBytes,
     n: usize,
     o: usize,
     marks: &mut [bool; 256],
     fault: PlacingFault,
 ) -> Result<u8, PlacingFault>
-    ensures { (l : List ℕ) → Marked l marks.old → VertexIs (held file.now m) n o l fault marks.new result }
+    ensures { (l : List ℕ) → Marked l marks.old → VertexIs (bytes payload.now) n o l fault marks.new result }
 {
-    let v = byte(file, m, o).ok_or(PlacingFault::Short(o))?;
+    let v = payload.byte(o).ok_or(PlacingFault::Short(o))?;
     let i = v as usize;
     if i >= n || marks[i] {
         return Err(fault);
@@ -58,9 +57,9 @@ fn read_vertex(
 }
 
 // Reads the starts and goals of the robots.
-fn read_robots(file: &[u8], m: usize, n: usize, robots: u8) -> Result<PlacingTables, PlacingFault>
+fn read_robots(payload: &PayloadBytes, n: usize, robots: u8) -> Result<PlacingTables, PlacingFault>
     requires { robots ≤ 64 }
-    ensures { RobotsAre (held file.now m) n robots result }
+    ensures { RobotsAre (bytes payload.now) n robots result }
 {
     let mut starts = [0u8; 64];
     let mut goals = [0u8; 64];
@@ -69,8 +68,8 @@ fn read_robots(file: &[u8], m: usize, n: usize, robots: u8) -> Result<PlacingTab
     for i in 0..robots as usize {
         let o = 1 + i * 2;
         let q = o + 1;
-        starts[i] = read_vertex(file, m, n, o, &mut started, PlacingFault::Start(o))?;
-        goals[i] = read_vertex(file, m, n, q, &mut ended, PlacingFault::Goal(q))?;
+        starts[i] = read_vertex(payload, n, o, &mut started, PlacingFault::Start(o))?;
+        goals[i] = read_vertex(payload, n, q, &mut ended, PlacingFault::Goal(q))?;
     }
     Ok(PlacingTables {
         robots,
@@ -79,19 +78,18 @@ fn read_robots(file: &[u8], m: usize, n: usize, robots: u8) -> Result<PlacingTab
     })
 }
 
-// Reads a placing from a payload of m bytes, on a map of n vertices.
-fn read_payload(file: &[u8], m: usize, n: usize) -> Result<PlacingTables, PlacingFault>
-    requires { m ≤ 65000 }
-    ensures { (p : Map) → p.size ≡ n → PlacingIs (placing_of p (held file.now m)) result }
+// Reads a placing from its payload, on a map of n vertices.
+fn read_payload(payload: &PayloadBytes, n: usize) -> Result<PlacingTables, PlacingFault>
+    ensures { (p : Map) → p.size ≡ n → PlacingIs (placing_of p (bytes payload.now)) result }
 {
-    let robots = byte(file, m, 0).ok_or(PlacingFault::Short(0))?;
+    let robots = payload.byte(0).ok_or(PlacingFault::Short(0))?;
     let many = robots > 64;
     if many || robots as usize > n {
         return Err(PlacingFault::Range);
     }
-    let tables = read_robots(file, m, n, robots)?;
+    let tables = read_robots(payload, n, robots)?;
     let end = 1 + robots as usize * 2;
-    if end != m {
+    if end != payload.len {
         return Err(PlacingFault::Short(end));
     }
     Ok(tables)
@@ -101,6 +99,6 @@ fn read_payload(file: &[u8], m: usize, n: usize) -> Result<PlacingTables, Placin
 pub fn read_placing(file: &[u8], n: usize) -> Result<PlacingTables, PlacingFault>
     ensures { (p : Map) → p.size ≡ n → PlacingIs (placing_in p file.now) result }
 {
-    let m = check_file(file, FileKind::Placing)?;
-    read_payload(file, m, n)
+    let len = check_file(file, FileKind::Placing)?;
+    read_payload(&PayloadBytes { file, len }, n)
 }

@@ -2,25 +2,24 @@
 #![tactic(auto)]
 
 ghost use Rattle.std.specs.Prelude.{◌≡◌};
-ghost use Rattle.opening.specs.Opened.{MapFiled};
 ghost use Rattle.planning.specs.Planned.{ClearedIs, JudgedIs, PlannedIs};
 
+use adjacency::Rows;
 use answers::Undelivered;
 use checking::check_file;
 use judge::judge_plan;
-use opening::{Yard, check_map, read_yard};
+use opening::{FiledMap, Yard, check_map, read_yard};
 use placing::PlacingTables;
 use refusals::Refusal;
 use resolve::resolve_plan;
 use wire::{FileKind, FiledPayload};
 
-// Reads map, placing and plan, where the map's blocks have passed, and judges the plan: the map and placing of one that is cleared.
-fn read_filed(map: &[u8], len: usize, placed: &[u8], plan: &[u8]) -> Result<Yard, Refusal>
-    requires { MapFiled map.now len }
-    ensures { ClearedIs map.now placed.now plan.now result }
+// Reads map, placing and plan, and judges the plan: the map and placing of one that is cleared.
+fn read_filed(map: &FiledMap, placed: &[u8], plan: &[u8]) -> Result<Yard, Refusal>
+    ensures { ClearedIs map.now.file.now placed.now plan.now result }
 {
-    let mut rows = [[0u64; 2]; 128];
-    let yard = read_yard(map, len, placed, &mut rows)?;
+    let mut rows = Rows::blank();
+    let yard = read_yard(map, placed, &mut rows)?;
     let len = check_file(plan, FileKind::Plan).map_err(Refusal::PlanFile)?;
     let PlacingTables {
         robots,
@@ -28,7 +27,14 @@ fn read_filed(map: &[u8], len: usize, placed: &[u8], plan: &[u8]) -> Result<Yard
         goals,
     } = yard.placing;
     let steps = FiledPayload { file: plan, len };
-    judge_plan(steps, &yard.map, &rows, starts, goals, robots as usize)?;
+    judge_plan(
+        steps,
+        &yard.map,
+        rows.words(),
+        starts,
+        goals,
+        robots as usize,
+    )?;
     Ok(yard)
 }
 
@@ -37,7 +43,7 @@ fn read_cleared(map: &[u8], placed: &[u8], plan: &[u8]) -> Result<Yard, Refusal>
     ensures { ClearedIs map.now placed.now plan.now result }
 {
     let filed = check_map(map)?;
-    read_filed(map, filed, placed, plan)
+    read_filed(&filed, placed, plan)
 }
 
 // Judges a plan with its map and placing.

@@ -1,13 +1,15 @@
 -- The bytes of a payload as they are read from the file, and a field read from them.
-use Rattle.std.specs.Prelude.{ℕ, zero, suc, ◌+◌, ◌*◌, ◌/◌, ◌≤◌, ◌<◌, ◌≡◌, refl, List, [], ◌∷◌, length, get_or, take, Option, Some, None, Ok, Err}
+use Rattle.std.specs.Prelude.{ℕ, zero, suc, ◌+◌, ◌*◌, ◌/◌, ◌≤◌, ◌<◌, ◌≡◌, refl, Bool, true, false, List, [], ◌∷◌, length, get_or, take, Option, Some, None, Ok, Err, if◌then◌else◌, nat_lt}
 use Rattle.std.proofs.Common.{ap, sym, ◌∙◌, ext_get_or}
 use Rattle.std.specs.Option.{ok_or}
-use borrow.Author.Tests.{lt-ltb, le-ltb}
+use borrow.Author.Tests.{lt-ltb, le-ltb, ltb-true}
 use native.Mathlib.Omega.{arith}
 use Rattle.spec.specs.Outcome.{Outcome, ok, refuse}
 use Rattle.spec.specs.Wire.{word}
 use Rattle.spec.specs.Layout.{byte_at, word_at}
+use Rattle.wire.specs.Payload as wire
 use Rattle.wire.specs.Payload.{payload, place_of, held_length, held_byte}
+use Rattle.zoning.specs.declared.PayloadBytes.{PayloadBytes}
 
 -- `count` payload bytes of a file, from offset o on
 unfoldable pub bytes_from : List ℕ → ℕ → ℕ → List ℕ
@@ -22,6 +24,22 @@ found r o None = refuse r o
 -- the first m payload bytes of a file
 abbrev pub held : List ℕ → ℕ → List ℕ
 held file m = bytes_from file 0 m
+
+-- the same as the code holds them
+abbrev pub bytes : PayloadBytes → List ℕ
+bytes p = held p.file.now p.len
+
+-- the two-byte number at offset o, where its bytes are there
+abbrev pub count_of : List ℕ → ℕ → ℕ → Option ℕ
+count_of file m o = if nat_lt (o + 1) m then Some (wire.word_at file o) else None
+
+-- a number that is there
+pub counted : (file : List ℕ) (m o e : ℕ) → count_of file m o ≡ Some e → (o + 1 < m) × (e ≡ wire.word_at file o)
+counted file m o e h = go (nat_lt (o + 1) m) refl h
+  where
+    go : (b : Bool) → nat_lt (o + 1) m ≡ b → ◌≡◌ {A = Option ℕ} (if b then Some (wire.word_at file o) else None) (Some e) → (o + 1 < m) × (e ≡ wire.word_at file o)
+    go true h e = (ltb-true (o + 1) m h, cc)
+    go false h e = cc
 
 bytes_length : (file : List ℕ) (o count : ℕ) → length (bytes_from file o count) ≡ count
 unfolding bytes_from

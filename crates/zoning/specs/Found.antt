@@ -1,12 +1,15 @@
 -- What the zones are once they are read: the arrays hold them, and every vertex has a zone or not.
-use Rattle.std.specs.Prelude.{ℕ, ◌+◌, ◌≤◌, ◌<◌, ◌≡◌, zero, suc, refl, Bool, true, false, ◌&&◌, Result, IfOk, not, List, [], ◌∷◌, map, length, take, get_or, eqb}
-use Rattle.std.proofs.Common.{ap, sym, ◌∙◌, arith}
+use Rattle.std.specs.Prelude.{ℕ, ◌+◌, ◌≤◌, ◌<◌, ◌≡◌, ◌⊎◌, zero, suc, refl, min, Bool, true, false, ◌&&◌, Result, IfOk, not, List, [], ◌∷◌, map, length, take, get_or, eqb}
+use Rattle.std.proofs.Common.{ap, sym, ◌∙◌, inl, inr, eqb-true, arith}
+use Rattle.std.proofs.lemmas.Bool.{eqb-false}
 use Rattle.std.proofs.Math.Seq.{take-suc}
+use Rattle.std.proofs.Math.ListN.{get_or-eq_default}
 use Rattle.std.proofs.lemmas.List.Folds.{list_all-append}
 use Rattle.std.specs.List.{list_all}
 use Rattle.spec.specs.Outcome.{member, below}
 use Rattle.spec.specs.Layout.{Zone, Read, read_zones, listed, zone_from}
 use Rattle.theory.specs.Basics.Lists.{get_d_default}
+use Rattle.wire.specs.Payload.{lt_or_ge}
 use Rattle.kinds.specs.Tests.{below_same}
 use Rattle.numbering.specs.Kind.{number_of}
 use Rattle.zoning.specs.declared.MapFault.{MapFault}
@@ -73,3 +76,25 @@ below_list f l (suc n) h =
     last true false = refl
     last false true = refl
     last false false = refl
+
+-- past the list's end there is nothing to test, where 0 passes
+below_past : (f : ℕ → Bool) (l : List ℕ) (n : ℕ) → f 0 ≡ true → length l ≤ n → below (λ v. f (get_or l v 0)) n ≡ below (λ v. f (get_or l v 0)) (length l)
+unfolding below
+below_past f l zero pass h = let e : zero ≡ length l = omega arith in ap (below (λ v. f (get_or l v 0))) e
+below_past f l (suc n) pass h = go (eqb (length l) (suc n)) refl (below_past f l n pass)
+  where
+    go : (b : Bool) → eqb (length l) (suc n) ≡ b → (length l ≤ n → below (λ v. f (get_or l v 0)) n ≡ below (λ v. f (get_or l v 0)) (length l))
+        → below (λ v. f (get_or l v 0)) (suc n) ≡ below (λ v. f (get_or l v 0)) (length l)
+    go true e ih = ap (below (λ v. f (get_or l v 0))) (sym (eqb-true (length l) (suc n) e))
+    go false e ih =
+        let d = eqb-false (length l) (suc n) e in
+        let q : length l ≤ n = omega arith in
+        rw (get_or-eq_default l 0 {n = n} q, pass) (ih q)
+
+-- the same test of as many numbers as the list has of them
+pub below_held : (f : ℕ → Bool) (l : List ℕ) (n k : ℕ) → f 0 ≡ true → k ≡ min n (length l) → below (λ v. f (get_or l v 0)) n ≡ list_all f (take k l)
+below_held f l n k pass e = go (lt_or_ge (length l) n)
+  where
+    go : (length l < n) ⊎ (n ≤ length l) → below (λ v. f (get_or l v 0)) n ≡ list_all f (take k l)
+    go (inl h) = let q : length l ≡ k = omega arith in below_past f l n pass (omega arith) ∙ below_list f l (length l) (omega arith) ∙ ap (λ (i : ℕ). list_all f (take i l)) q
+    go (inr h) = let q : n ≡ k = omega arith in below_list f l n h ∙ ap (λ (i : ℕ). list_all f (take i l)) q

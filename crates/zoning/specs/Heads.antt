@@ -105,6 +105,14 @@ module _ (most : ℕ) (p : List ℕ) (o : ℕ) where
     unfolding count_at ◌>>=◌ ◌>>◌ check ◌and◌
     count_good h l = rw (count_at, there, le-leb 1 n h, le-leb n most l)
 
+-- a count is at most the most
+pub count_most : (most : ℕ) (p : List ℕ) (o n : ℕ) → count_at most p o ≡ ok n → n ≤ most
+unfolding count_at
+count_most most p o n e =
+    let b = bound _ _ _ e in
+    let a = passed _ _ _ _ _ b.2 in
+    rw (← ok_injective a.1) (leb→le _ _ (and_right _ _ a.0))
+
 module _ (p : List ℕ) where
   pub counts_vertices : (r q : ℕ) → count_at 128 p 0 ≡ refuse r q → counts_of p ≡ refuse r q
   counts_vertices r q e = counts_are p ∙ refused (count_at 128 p 0) r q _ e

@@ -2,46 +2,46 @@
 ghost use Rattle.std.specs.Prelude.{◌≡◌, ◌≤◌};
 ghost use Rattle.spec.specs.Layout.{read_head, counts_of};
 ghost use Rattle.zoning.specs.Fault.{answered};
-ghost use Rattle.zoning.specs.Bytes.{held};
+ghost use Rattle.zoning.specs.Bytes.{bytes};
 ghost use Rattle.zoning.specs.Heads.{count_at, head_in, counts_in};
 
-use crate::{Counts, Head, MapFault, byte};
+use crate::{Counts, Head, MapFault, PayloadBytes};
 use numbering::ZoneKind;
 
-// The kind and size at offset o of a payload of m bytes.
-pub fn read_head(file: &[u8], m: usize, o: usize) -> Result<Head, MapFault>
+// The kind and size at offset o.
+pub fn read_head(payload: &PayloadBytes, o: usize) -> Result<Head, MapFault>
     requires { o ≤ 65536 }
-    ensures { read_head (held file.now m) o ≡ answered head_in result }
+    ensures { read_head (bytes payload.now) o ≡ answered head_in result }
 {
-    let number = byte(file, m, o).ok_or(MapFault::Short(o))?;
+    let number = payload.byte(o).ok_or(MapFault::Short(o))?;
     let Ok(kind) = ZoneKind::try_from(number) else {
         return Err(MapFault::Range(o));
     };
     let least = kind.least_size();
     let q = o + 1;
-    let size = byte(file, m, q).ok_or(MapFault::Short(q))?;
+    let size = payload.byte(q).ok_or(MapFault::Short(q))?;
     if size < least {
         return Err(MapFault::Range(q));
     }
     Ok(Head { kind, size })
 }
 
-// The count at offset o of a payload of m bytes, from 1 to the most.
-fn read_count(file: &[u8], m: usize, o: usize, most: u8) -> Result<u8, MapFault>
-    ensures { count_at most (held file.now m) o ≡ answered (λ n. n) result }
+// The count at offset o, from 1 to the most.
+fn read_count(payload: &PayloadBytes, o: usize, most: u8) -> Result<u8, MapFault>
+    ensures { count_at most (bytes payload.now) o ≡ answered (λ n. n) result }
 {
-    let n = byte(file, m, o).ok_or(MapFault::Short(o))?;
+    let n = payload.byte(o).ok_or(MapFault::Short(o))?;
     if n < 1 || n > most {
         return Err(MapFault::Range(o));
     }
     Ok(n)
 }
 
-// How many vertices and zones a payload of m bytes says there are.
-pub fn read_counts(file: &[u8], m: usize) -> Result<Counts, MapFault>
-    ensures { counts_of (held file.now m) ≡ answered counts_in result }
+// How many vertices and zones the payload says there are.
+pub fn read_counts(payload: &PayloadBytes) -> Result<Counts, MapFault>
+    ensures { counts_of (bytes payload.now) ≡ answered counts_in result }
 {
-    let vertices = read_count(file, m, 0, 128)?;
-    let zones = read_count(file, m, 1, 64)?;
+    let vertices = read_count(payload, 0, 128)?;
+    let zones = read_count(payload, 1, 64)?;
     Ok(Counts { vertices, zones })
 }

@@ -4,9 +4,9 @@
 //     reading  the zones' vertices in listed order, and the zone and place of each vertex
 #![tactic(auto)]
 
-ghost use Rattle.std.specs.Prelude.{◌≡◌, ℕ};
+ghost use Rattle.std.specs.Prelude.{◌≡◌, ℕ, ◌+◌, ◌≤◌, ◌<◌, IfSome};
 ghost use Rattle.spec.specs.Layout.{byte_at};
-ghost use Rattle.zoning.specs.Bytes.{held, found};
+ghost use Rattle.zoning.specs.Bytes.{bytes, found, count_of};
 
 pub mod heads;
 pub mod reading;
@@ -28,6 +28,7 @@ pub enum MapFault {
 pub struct Counts {
     pub vertices: u8,
     pub zones: u8,
+    pub ghost few: { (vertices ≤ 128) × (zones ≤ 64) },
 }
 
 // A zone's kind and size.
@@ -49,13 +50,33 @@ pub struct Zones {
     pub place: [u8; 128],
 }
 
-// Byte o of a payload of m bytes; none where the payload ends before.
-pub fn byte(file: &[u8], m: usize, o: usize) -> Option<u8>
-    ensures { (r : ℕ) → byte_at r (held file.now m) o ≡ found r o result }
-{
-    let there = o < m;
-    if there {
-        return Some(wire::payload_byte(file, o));
+// The first `len` payload bytes of a file, read where they stand in it; 0 past the file's end.
+#[derive(Clone, Copy)]
+pub struct PayloadBytes<'a> {
+    pub file: &'a [u8],
+    pub len: usize,
+}
+
+impl PayloadBytes<'_> {
+    // Byte o; none where the payload ends before.
+    pub fn byte(&self, o: usize) -> Option<u8>
+        ensures { (r : ℕ) → byte_at r (bytes self.now) o ≡ found r o result }
+    {
+        let there = o < self.len;
+        if there {
+            return Some(wire::payload_byte(self.file, o));
+        }
+        None
     }
-    None
+
+    // The two-byte number at offset o; none where the payload ends before.
+    pub fn word(&self, o: usize) -> Option<usize>
+        ensures value { result ≡ count_of self.now.file.now self.now.len o }
+        ensures inside { IfSome result (λ _. o + 1 < self.now.len) }
+    {
+        if o < self.len && o + 1 < self.len {
+            return Some(wire::payload_word(self.file, o) as usize);
+        }
+        None
+    }
 }

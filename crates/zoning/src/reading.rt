@@ -1,13 +1,13 @@
 // The zones of a map: their vertices one after the other in listed order, and the zone and place of each vertex.
-ghost use Rattle.std.specs.Prelude.{◌≡◌, not, ◌+◌, ◌<◌, ◌≤◌, get_or, eqb};
+ghost use Rattle.std.specs.Prelude.{◌≡◌, not, ◌<◌, ◌≤◌, get_or, eqb};
 ghost use Rattle.spec.specs.Outcome.{below};
-ghost use Rattle.zoning.specs.Bytes.{held};
+ghost use Rattle.zoning.specs.Bytes.{bytes};
 ghost use Rattle.zoning.specs.Table.{Rep};
 ghost use Rattle.zoning.specs.Vertices.{VerticesAre};
 ghost use Rattle.zoning.specs.Found.{ZonesAre};
 
 use crate::heads::read_head;
-use crate::{MapFault, Zones, byte};
+use crate::{Counts, MapFault, PayloadBytes, Zones};
 use numbering::ZoneKind;
 
 // The `used` vertices that are listed, and the zone (255 for none) and place of each vertex.
@@ -23,22 +23,21 @@ impl Listing {
     // Reads the `size` vertices of zone z from offset `from` on, behind those that are listed.
     fn read(
         &mut self,
-        file: &[u8],
-        m: usize,
-        n: usize,
+        payload: &PayloadBytes,
+        counts: Counts,
         z: u8,
-        size: usize,
+        size: u8,
         from: usize,
     ) -> Result<(), MapFault>
-        requires n_bound { (n ≤ 128) × (z < 64) × (size ≤ 255) × (from ≤ 65536) }
+        requires n_bound { (z < 64) × (from ≤ 65536) }
         requires rep { Rep self.old }
-        ensures { VerticesAre (held file.now m) n z size from self.old self.new result }
+        ensures { VerticesAre (bytes payload.now) counts.vertices z size from self.old self.new result }
     {
         for k in 0..size {
-            let o = from + k;
-            let v = byte(file, m, o).ok_or(MapFault::Short(o))?;
+            let o = from + k as usize;
+            let v = payload.byte(o).ok_or(MapFault::Short(o))?;
             let i = usize::from(v);
-            if i >= n {
+            if v >= counts.vertices {
                 return Err(MapFault::Listing(o));
             }
             let old = self.zone[i];
@@ -47,17 +46,16 @@ impl Listing {
             }
             self.listed[self.used] = v;
             self.zone[i] = z;
-            self.place[i] = k as u8;
+            self.place[i] = k;
             self.used += 1;
         }
         Ok(())
     }
 }
 
-// Reads z zones from offset 2 on.
-pub fn read_zones(file: &[u8], m: usize, n: usize, z: usize) -> Result<Zones, MapFault>
-    requires { (n ≤ 128) × (z ≤ 64) }
-    ensures { ZonesAre (held file.now m) n z result }
+// Reads the zones from offset 2 on.
+pub fn read_zones(payload: &PayloadBytes, counts: Counts) -> Result<Zones, MapFault>
+    ensures { ZonesAre (bytes payload.now) counts.vertices counts.zones result }
 {
     let mut kind = [ZoneKind::Stack; 64];
     let mut first = [0u8; 64];
@@ -69,15 +67,15 @@ pub fn read_zones(file: &[u8], m: usize, n: usize, z: usize) -> Result<Zones, Ma
         place: [0u8; 128],
     };
     let mut next: usize = 2;
-    for i in 0..z {
-        let head = read_head(file, m, next)?;
+    for i in 0..counts.zones {
+        let head = read_head(payload, next)?;
         let used = listing.used;
-        let count = usize::from(head.size);
-        listing.read(file, m, n, i as u8, count, next + 2)?;
-        kind[i] = head.kind;
-        first[i] = used as u8;
-        size[i] = head.size;
-        next += 2 + count;
+        listing.read(payload, counts, i, head.size, next + 2)?;
+        let z = i as usize;
+        kind[z] = head.kind;
+        first[z] = used as u8;
+        size[z] = head.size;
+        next += 2 + head.size as usize;
     }
     let Listing {
         listed,
@@ -96,10 +94,9 @@ pub fn read_zones(file: &[u8], m: usize, n: usize, z: usize) -> Result<Zones, Ma
     })
 }
 
-// Has every vertex below n a zone?
+// Has every vertex below n a zone? One that is not below 128 is not asked.
 pub fn covered(zone: &[u8; 128], n: usize) -> bool
-    requires { n ≤ 128 }
     ensures { result ≡ below (λ v. not (eqb (get_or zone.now v 0) 255)) n }
 {
-    zone[..n].iter().all(|z| *z != 255)
+    zone[..n.min(128)].iter().all(|z| *z != 255)
 }
