@@ -20,6 +20,7 @@ pub fn lowest(state: &State, zone: &[u8]) -> Option<Robot>
 }
 
 // "the other places, from the one after it round to the one before it": the vertices of the ring but that of place j.
+// A place and its ring stay two values: a pair would be made for this call alone.
 pub fn open_at(zone: &[u8], j: usize, others: &mut [u8])
     requires { (j < length zone.now) × (suc (length others.old) ≡ length zone.now) }
     ensures { others.new ≡ opened j zone.now }
