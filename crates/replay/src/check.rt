@@ -76,8 +76,8 @@ fn off_goal(state: &State, goals: &[u8; 64], k: usize) -> Option<usize>
     ensures { off_goal result ≡ on_goals 0 state.now.vertices (take k goals.now) }
 {
     for i in 0..k {
-        let v = state.vertex_of(Robot(i as u8));
-        if v != Vertex(goals[i]) {
+        let off = state.vertex_of(Robot(i as u8)) != Vertex(goals[i]);
+        if off {
             return Some(i);
         }
     }

@@ -19,7 +19,7 @@ returns-in_err-len c =
     rw (p.1, p.2) (cleared_file c.args.map.now.file.now c.args.placed.now c.args.plan.now _ _ _ c.in_ok-yard.ensures _ (told.file_refused c.args.plan.now 30 3 64 PlanFile k.result (k.ensures.by_index 30) _ (told.plan_file_refused c.args.plan.now) c.in_err-len.ensures.cases))
 
 pub judge_plan-requires : goal.judge_plan-requires
-judge_plan-requires c = record { listed = c.in_ok-yard.ensures.held.long_listed; placement = yard_placement _ _ _ _ _ c.in_ok-yard.ensures }
+judge_plan-requires c = record { listed = c.in_ok-yard.ensures.held.long_listed; placement = rw c.words.ensures (yard_placement _ _ _ _ _ c.in_ok-yard.ensures) }
 
 pub returns-in_err-judge_plan : goal.returns-in_err-judge_plan
 returns-in_err-judge_plan c =
@@ -29,7 +29,7 @@ returns-in_err-judge_plan c =
     let d = c.in_ok-yard.ensures in
     rw (p.1, p.2)
     (cleared_plan c.args.map.now.file.now c.args.placed.now c.args.plan.now _ _ _ d _ w.1 (λ i. omega (arith, c.type_inv.plan i)) _
-    (c.in_err-judge_plan.ensures d.it.graph d.it.placing (yard_given _ _ _ _ _ d) (sym d.held.count) d.placed (sym d.robots.starts) (sym d.robots.goals)))
+    (c.in_err-judge_plan.ensures d.it.graph d.it.placing (rw c.words.ensures (yard_given _ _ _ _ _ d)) (sym d.held.count) d.placed (sym d.robots.starts) (sym d.robots.goals)))
 
 pub returns : goal.returns
 returns c =
@@ -37,4 +37,4 @@ returns c =
     let w = told.file_read c.args.plan.now 30 3 64 PlanFile k.result (k.ensures.by_index 30) c.in_ok-len.len c.in_ok-len.ensures.cases in
     let d = c.in_ok-yard.ensures in
     cleared_all c.args.map.now.file.now c.args.placed.now c.args.plan.now _ _ _ d _ w.1 (held_as _ _ _ _ k.ensures.held w.0)
-    (c.in_ok-judge_plan.ensures d.it.graph d.it.placing (yard_given _ _ _ _ _ d) (sym d.held.count) d.placed (sym d.robots.starts) (sym d.robots.goals))
+    (c.in_ok-judge_plan.ensures d.it.graph d.it.placing (rw c.words.ensures (yard_given _ _ _ _ _ d)) (sym d.held.count) d.placed (sym d.robots.starts) (sym d.robots.goals))

@@ -6,8 +6,8 @@ use Rattle.replay.proofs.check.off_goal.Goals as goal
 pub loop-i-init : goal.loop-i-init
 loop-i-init c = refl
 
-pub returns-then-ne : goal.returns-then-ne
-returns-then-ne c =
+pub returns-then-off : goal.returns-then-off
+returns-then-off c =
     goals_off _ c.args.goals.now _ _ (search rules) (search rules) (search rules) ∙ sym c.loop-i.invariant
 
 pub loop-i-preserved : goal.loop-i-preserved
