@@ -6,9 +6,6 @@ use lib.Seq.{length-take-le}
 use Rattle.judge.specs.Filling.{lined_small}
 use Rattle.judge.proofs.ending.ends_zone.Goals as goal
 
-pub invariant_of-zone : goal.invariant_of-zone
-invariant_of-zone c = record { short = rw c.vertices_of.ensures c.requires.0.long }
-
 pub slice_bounds-robots-end : goal.slice_bounds-robots-end
 slice_bounds-robots-end c =
     let a = c.args in
