@@ -19,6 +19,7 @@ use motion::{ListedVertices, State};
 use numbering::Zone;
 
 // The moves that bring zone z to its goals, which can be reached.
+// That the map has the zone stays a clause: it is of the two together, and a zone's number is read of no map.
 fn end_zone(
     state: &mut State,
     count: usize,

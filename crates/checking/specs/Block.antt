@@ -1,11 +1,11 @@
 -- A block, and where it stands in a file.
 use Rattle.std.specs.Prelude.{ℕ, zero, suc, ◌+◌, ◌-◌, ◌*◌, ◌≤◌, ◌<◌, ◌≡◌, refl, Bool, true, false, List, [], ◌∷◌, fold, get_or, take, drop, eqb, leb}
-use Rattle.std.proofs.Common.{ap, sym, ◌∙◌, drop-drop, take-take, get_or-drop, get_or-take, leb-true, eqb-true, ne_eqb, arith}
+use Rattle.std.proofs.Common.{ap, sym, ◌∙◌, drop-drop, take-take, leb-true, eqb-true, ne_eqb, arith}
 use Rattle.std.specs.Int.Bits.{bit_or, or_zero_l, or_add_and}
 use Rattle.std.proofs.lemmas.Nat.{and_le_r}
 use Rattle.std.specs.Simd.{first_chunks}
 use Rattle.spec.specs.Outcome.{all, ◌and◌}
-use Rattle.spec.specs.Wire.{checksum, word, head_ok, filled, fill_ok}
+use Rattle.spec.specs.Wire.{checksum, word, filled, fill_ok}
 use Rattle.checksum.specs.Sum.{front_not}
 use Rattle.wire.specs.Payload.{drop_take}
 

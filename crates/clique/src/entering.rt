@@ -93,8 +93,9 @@ fn fill(
     out: &mut [u8],
 ) -> usize
     requires list_len { length list.now ≡ length zone.vertices.now }
-    // Kept a clause: it is of the list and the place together, and a type of both would be taken apart again at each use.
+    // Kept a clause, here and below: it is of the list and the place together, and a type of both would be taken apart again at each use.
     requires numbered { Numbered list.now j }
+    // Kept a clause, here and below: it is of the state and the zone together, and the state is changed here.
     requires distinct { Distinct (arrangement_of state.old zone.vertices.now) }
     ensures { world state.new result out.new ≡ made_all (world state.old count out.old) (across zone.entry.vertices.now (clique_to (length zone.entry.vertices.now * 2) (arrangement_of state.old zone.entry.vertices.now) (set (named list.now) j 0))) }
 {

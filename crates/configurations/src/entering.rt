@@ -113,6 +113,7 @@ fn turn(list: &mut [u8], q: usize)
 }
 
 // A robot comes into a ring at this spot, before the one at index t; where that fills the ring, it is turned so that the robot stands there.
+// An index and its list stay two values, as in `rosters`.
 fn ring_enter(at: Spot, part: &mut [u8], t: usize, r: u8)
     requires { t < length part.old }
     ensures { (behind : ℕ) → t ≡ entry_in behind (take (length part.old - 1) part.old) → part.new ≡ ring_entered at.size (take (length part.old - 1) part.old) r at.place behind }

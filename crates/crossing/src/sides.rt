@@ -33,6 +33,8 @@ fn near_place(kind: ZoneKind, m: usize, j: usize) -> usize
 }
 
 // The moves that bring robot r, which can leave there, to place j, which is vertex u: one where it stands beside that and nobody on it.
+// A place and its zone stay two values, here and below: both are looked up in the map apart, and `zones` takes them apart.
+// That the arrangement is proper stays a clause: it is of the state and the zone together, and the state is changed here.
 fn leave_in(
     state: &mut State,
     count: usize,

@@ -78,7 +78,12 @@ fn time(map: &[u8], placing: &[u8], moves: &[u8], out: &mut [u8]) -> Result<usiz
 {
     let Opened { count, .. } = open_list(map, placing, moves)?;
     write_rounds(moves, count, out);
-    finish(out, count as usize, FileKind::Rounds, 2 + count as usize * 2)
+    finish(
+        out,
+        count as usize,
+        FileKind::Rounds,
+        2 + count as usize * 2,
+    )
 }
 
 // Judging: is the plan cleared? Nothing is written.

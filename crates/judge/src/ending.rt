@@ -22,6 +22,7 @@ use numbering::Zone;
 use testing::Lists;
 
 // Writes zone z's list: its robots in order, and their number.
+// That the map has the zone stays a clause, here and below: it is of the two together, and a zone's number is read of no map.
 fn fill_zone(state: &State, map: &MapTables, z: Zone, lists: &mut Lists)
     requires { ZoneOn map.now z.0 × (length lists.old.cells ≡ length map.now.listed) }
     ensures { ListedOn map.now lists.old z.0 (order (meaning.arrangement_of state.now (part_of map.now z.0))) lists.new }

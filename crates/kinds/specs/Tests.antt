@@ -1,5 +1,5 @@
 -- The kind tests as the code makes them, on the rows.
-use Rattle.std.specs.Prelude.{ℕ, zero, suc, ◌+◌, ◌-◌, ◌<◌, ◌≡◌, refl, Bool, true, false, not, List, length, get_or, take, drop, eqb, leb}
+use Rattle.std.specs.Prelude.{ℕ, zero, suc, ◌-◌, ◌<◌, ◌≡◌, refl, Bool, true, false, not, List, length, get_or, drop, eqb, leb}
 use Rattle.std.specs.List.{list_all}
 use mathlib.Core.Bool.{beq}
 use Rattle.std.proofs.Common.{ap, ap₂, sym, ◌∙◌, arith}

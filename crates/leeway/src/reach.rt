@@ -18,6 +18,7 @@ fn named(nearest: Option<Robot>) -> u8
     nearest.map_or(255, |r| r.0)
 }
 
+// A place and its zone stay two values, here and below: each is used once, and apart.
 // "in a ring, the first cart met going backward from to"; none if the ring is empty.
 fn behind_round(state: &State, zone: &[u8], j: usize) -> Option<Robot>
     requires { j < length zone.now }

@@ -1,4 +1,4 @@
-// Lists of robots in lent bytes.
+// Lists of robots in lent bytes. An index and its list stay two values: one call finds it, and the next changes the list there.
 ghost use Rattle.std.specs.Prelude.{◌≡◌, ◌-◌, ◌<◌, length, take};
 ghost use Rattle.orders.specs.Orders.{without, put_in};
 

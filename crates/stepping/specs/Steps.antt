@@ -13,7 +13,7 @@ use Rattle.theory.specs.Plans.Taken.{Taken, leaving}
 use Rattle.theory.specs.Plans.Step.{proper}
 use Rattle.wire.specs.Payload.{payload, FourAt, held_length}
 use Rattle.wire.specs.declared.Four.{Four}
-use Rattle.motion.specs.World.{World, made_all, made_none, state_is}
+use Rattle.motion.specs.World.{World, made_all, state_is}
 use Rattle.motion.specs.World as world
 use Rattle.clique.specs.Entering.{Numbered, numbered_none, entered_numbered}
 use Rattle.walking.specs.Kinds.{leave_moves, enter_moves, clique_can_enter_lem}

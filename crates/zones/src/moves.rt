@@ -46,6 +46,7 @@ pub fn enter(
     out: &mut [u8],
 ) -> usize
     requires j_in_bounds { j < length zone.vertices.now }
+    // Clauses of two values together: of the list and the place, and of the zone and the state, which is changed here.
     requires numbered { Numbered list.now j }
     requires proper { Proper (arrangement_of state.old zone.vertices.now) }
     requires list_len { length list.now ≡ extra_of (number_of kind) (arrangement_of state.old zone.vertices.now) }
@@ -67,6 +68,7 @@ pub fn bring_to_goals(
     goals: &State,
     out: &mut [u8],
 ) -> usize
+    // The second is a clause of the zone and the state together, which is changed here.
     requires zone_value { can_end (number_of kind) (arrangement_of state.old zone.vertices.now) (arrangement_of goals.now zone.vertices.now) ≡ true }
     requires proper { Proper (arrangement_of state.old zone.vertices.now) }
     ensures { world state.new result out.new ≡ made_all (world state.old count out.old) (across zone.entry.vertices.now (end_moves (number_of kind) (arrangement_of state.old zone.entry.vertices.now) (arrangement_of goals.now zone.entry.vertices.now))) }

@@ -1,7 +1,7 @@
 -- The counts of a map, and a zone's head, read step by step.
-use Rattle.std.specs.Prelude.{ℕ, ◌+◌, ◌≤◌, ◌<◌, ◌≡◌, ◌≢◌, refl, ◌⊎◌, Bool, true, false, Option, Some, None, List, eqb, leb}
-use Rattle.std.proofs.Common.{ap, sym, ◌∙◌, inl, inr, leb→le, arith}
-use borrow.Author.Tests.{le-leb, lt-leb, ne_eqb}
+use Rattle.std.specs.Prelude.{ℕ, ◌+◌, ◌≤◌, ◌<◌, ◌≡◌, ◌≢◌, refl, Bool, true, false, List, eqb, leb}
+use Rattle.std.proofs.Common.{◌∙◌, leb→le, arith}
+use borrow.Author.Tests.{le-leb, lt-leb}
 use Rattle.spec.specs.Outcome.{Outcome, ok, refuse, ◌>>=◌, ◌>>◌, check, ◌and◌}
 use Rattle.spec.specs.Layout as layout
 use Rattle.spec.specs.Layout.{byte_at, read_head, counts_of, least_size}

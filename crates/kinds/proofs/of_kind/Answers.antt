@@ -1,7 +1,6 @@
-use Rattle.std.proofs.Common.{List, ℕ, ap, sym, ◌∙◌}
-use Rattle.numbering.specs.Kind.{number_of}
+use Rattle.std.proofs.Common.{sym, ◌∙◌}
 use Rattle.kinds.specs.Marks.{apart_closed}
-use Rattle.kinds.specs.Tests.{test_of, stack_not, stack_shaped, hall_shaped, clique_shaped, ring_shaped}
+use Rattle.kinds.specs.Tests.{stack_not, stack_shaped, hall_shaped, clique_shaped, ring_shaped}
 use Rattle.kinds.proofs.of_kind.Goals as goal
 
 pub returns-then-line_ok : goal.returns-then-line_ok

@@ -1,4 +1,3 @@
-use Rattle.numbering.specs.Kind.{number_of}
 use Rattle.crossing.specs.Sides.{looked, enter_looked}
 use Rattle.walking.specs.Held.{held_part}
 use Rattle.comparing.specs.Comparing.{cells_length}

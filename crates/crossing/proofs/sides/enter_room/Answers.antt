@@ -5,7 +5,6 @@ use Rattle.motion.specs.World.{world}
 use Rattle.spec.specs.State.{arrangement_of}
 use mathlib.Core.List.{[]}
 use mathlib.Core.Path.{sym}
-use borrow.Author.Rules.{rules}
 use Rattle.crossing.proofs.sides.enter_room.Goals as goal
 
 pub returns-then-is_ready : goal.returns-then-is_ready

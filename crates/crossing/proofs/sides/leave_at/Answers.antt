@@ -1,4 +1,3 @@
-use Rattle.numbering.specs.Kind.{number_of}
 use Rattle.crossing.specs.Sides.{left_ready, looked, leave_looked}
 use Rattle.walking.specs.OnMap.{kind_on, vertices_on, place_on}
 use Rattle.motion.specs.World.{world}

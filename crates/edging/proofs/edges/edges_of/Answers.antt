@@ -1,4 +1,4 @@
-use Rattle.std.proofs.Common.{◌+◌, ◌<◌, ◌≤◌, length, sym, ◌∙◌, arith}
+use Rattle.std.proofs.Common.{sym, ◌∙◌, arith}
 use Rattle.std.proofs.lemmas.Result.{err_from_is_err_and}
 use Rattle.zoning.specs.Bytes.{counted, none_given, some_given}
 use Rattle.edging.specs.Edges.{counted_there, uncovered, count_cut, edges_many, edges_fault, edges_surplus, edges_whole}

@@ -1,8 +1,6 @@
-use Rattle.std.proofs.Common.{◌≡◌, ◌+◌, sym, ap, ◌∙◌}
+use Rattle.std.proofs.Common.{◌+◌, sym, ap, ◌∙◌}
 use Rattle.std.proofs.lemmas.Result.{err_from_is_err_and}
-use Rattle.numbering.specs.Kind.{number_of}
 use Rattle.spec.specs.Outcome.{ok}
-use Rattle.spec.specs.Layout.{byte_at}
 use Rattle.zoning.specs.Bytes.{bytes, present, missing}
 use Rattle.zoning.specs.Heads.{head_short, head_kind, head_end, head_small, head_good}
 use Rattle.zoning.proofs.heads.read_head.Goals as goal
