@@ -36,17 +36,6 @@ unfoldable pub test_of : List (List ℕ) → List ℕ → List ℕ → ℕ → �
 unfolding stack_test
 test_of rows vs zone z kind = elim (eqb kind 1) [ true ↦ stack_test rows vs zone z | false ↦ elim (leb 2 kind and leb kind 4) [ true ↦ shape_test rows vs kind | false ↦ false ] ]
 
--- a test of every number below n, from the last on
-pub below_more : (f : ℕ → Bool) (n : ℕ) → 0 < n → f (n - 1) ≡ true → below f n ≡ below f (n - 1)
-unfolding below
-below_more f zero h e = absurd (omega arith)
-below_more f (suc n) h e = let a : suc n - 1 ≡ n = omega arith in rw (a, below, rw a at e)
-
-pub below_not : (f : ℕ → Bool) (n : ℕ) → 0 < n → f (n - 1) ≡ false → below f n ≡ false
-unfolding below
-below_not f zero h e = absurd (omega arith)
-below_not f (suc n) h e = let a : suc n - 1 ≡ n = omega arith in rw (below, rw a at e)
-
 -- tests that agree below n
 pub below_same : (f g : ℕ → Bool) (n : ℕ) → ((i : ℕ) → i < n → f i ≡ g i) → below f n ≡ below g n
 unfolding below

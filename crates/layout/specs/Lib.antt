@@ -2,6 +2,5 @@
 pub mod Kinds
 pub mod Rest
 pub mod Map
-pub mod Tables
 pub mod Lists
 pub mod View

@@ -123,13 +123,3 @@ module _ (p : List ℕ) where
 
     pub counts_good : (z : ℕ) → count_at 64 p 1 ≡ ok z → counts_of p ≡ ok (record { vertices = n; zones = z })
     counts_good z e = counts_are p ∙ bind (count_at 128 p 0) n _ first ∙ bind (count_at 64 p 1) z _ e
-
--- the counts are within their ranges
-pub counts_range : (p : List ℕ) (c : layout.Counts) → counts_of p ≡ ok c → (c.vertices ≤ 128) × (c.zones ≤ 64)
-unfolding counts_of
-counts_range p c e =
-    let n = bound _ _ _ e in
-    let a = passed _ _ _ _ _ n.2 in
-    let z = bound _ _ _ a.1 in
-    let b = passed _ _ _ _ _ z.2 in
-    rw (← ok_injective b.1) (leb→le _ _ (and_right _ _ a.0), leb→le _ _ (and_right _ _ b.0))
