@@ -1,10 +1,9 @@
 -- Lists of robots in lent bytes.
-use Rattle.std.specs.Prelude.{◌≡◌, List, [], ◌∷◌, ◌++◌, ℕ, suc, ◌+◌, ◌-◌, ◌≤◌, ◌<◌, length, get_or, set, take, drop, reverse}
+use Rattle.std.specs.Prelude.{◌≡◌, refl, List, ◌∷◌, ◌++◌, ℕ, suc, ◌+◌, ◌-◌, ◌≤◌, ◌<◌, length, get_or, set, take, drop, reverse}
 use Rattle.std.proofs.Common.{sym, ap, ◌∙◌, arith, length-set, length-drop}
 use Rattle.std.proofs.Math.Decide.{ℕ_discrete, dec_lt}
 use Rattle.std.proofs.Math.ListN.{get_or-append}
 use Rattle.std.proofs.lemmas.List.{reverse-append, reverse-reverse}
-use Rattle.std.specs.List.{CopiedTo, SameBelow}
 use lib.Seq.{length-take-le, get_or-take, get_or-drop, get_or-set_same, get_or-set_other, ext_get_or, get_or-append-add, take_all}
 use Rattle.orders.specs.Orders.{without, put_in, turned_by}
 use Rattle.orders.specs.Lengths.{without_length, put_length}
@@ -42,6 +41,30 @@ without_over t l k h b =
     let e : suc t + (k - t) ≡ k + 1 = omega arith in
     append_right (take t l) (drop (suc t) l) t k (length-take-le t l (omega arith)) b ∙ get_or-drop (suc t) l (k - t) 0 ∙ ap (λ (i : ℕ). get_or l i 0) e
 
+-- as far as element i those behind element t have come one nearer
+pub record Shifting (p : List ℕ) (t i : ℕ) (q : List ℕ) : Type 0 where
+  pub long : length q ≡ length p
+  pub under : (k : ℕ) → k < t → get_or q k 0 ≡ get_or p k 0
+  pub over : (k : ℕ) → t ≤ k → k < i → get_or q k 0 ≡ get_or p (k + 1) 0
+  pub past : (k : ℕ) → i ≤ k → get_or q k 0 ≡ get_or p k 0
+
+-- none yet
+pub shift_none : (p : List ℕ) (t : ℕ) → Shifting p t t p
+shift_none p t = record { long = refl; under = λ k b. refl; over = λ k b d. absurd (omega arith); past = λ k b. refl }
+
+-- one more
+pub shift_more : (p : List ℕ) (t i : ℕ) (q : List ℕ) → t ≤ i → i < length p → Shifting p t i q → Shifting p t (i + 1) (set q i (get_or q (i + 1) 0))
+shift_more p t i q h l s = record {
+  long = length-set q i _ ∙ s.long;
+  under = λ k b. get_or-set_other q i k _ 0 (λ e. omega arith) ∙ s.under k b;
+  over = λ k b d. high k b d (ℕ_discrete k i);
+  past = λ k b. get_or-set_other q i k _ 0 (λ e. omega arith) ∙ s.past k (omega arith);
+}
+  where
+    high : (k : ℕ) → t ≤ k → k < i + 1 → Dec (k ≡ i) → get_or (set q i (get_or q (i + 1) 0)) k 0 ≡ get_or p (k + 1) 0
+    high k b d (yes e) = rw e (get_or-set_same q i _ 0 (omega (arith, s.long)) ∙ s.past (i + 1) (omega arith))
+    high k b d (no n) = get_or-set_other q i k _ 0 n ∙ s.over k b (omega arith)
+
 -- as long, and the first are the list p without its element t
 abbrev pub TakenOut : List ℕ → ℕ → List ℕ → Type 0
 TakenOut p t q = (length q ≡ length p) × (take (length p - 1) q ≡ without t p)
@@ -57,15 +80,13 @@ module _ (p q : List ℕ) (t : ℕ) (h : t < length p) (e : length q ≡ length 
       cut : length (take (length p - 1) q) ≡ length p - 1
       cut = length-take-le (length p - 1) q (omega (arith, e))
 
-  -- those behind have come one nearer
-  pub taken_out : SameBelow p q t → CopiedTo p q (t + 1) t (length p - (t + 1)) → TakenOut p t q
-  taken_out under over = out_by at
+  -- all those behind have come one nearer
+  pub shifted_out : (i : ℕ) → length p - 1 ≤ i → Shifting p t i q → TakenOut p t q
+  shifted_out i d s = out_by at
     where
       at : (k : ℕ) → k < length p - 1 → Dec (k < t) → get_or q k 0 ≡ get_or (without t p) k 0
-      at k x (yes y) = under k 0 y ∙ sym (without_under t p k h y)
-      at k x (no y) =
-          let f : t + 1 + (k - t) ≡ k + 1 = omega arith in
-          over k 0 (omega arith) (omega arith) ∙ ap (λ (i : ℕ). get_or p i 0) f ∙ sym (without_over t p k h (omega arith))
+      at k x (yes y) = s.under k y ∙ sym (without_under t p k h y)
+      at k x (no y) = s.over k (omega arith) (omega arith) ∙ sym (without_over t p k h (omega arith))
 
   -- of one robot or two at most one is left, and stands first
   pub pair_left : length p ≤ 2 → (length p ≡ 2 → get_or q 0 0 ≡ get_or p (1 - t) 0) → TakenOut p t q
@@ -101,9 +122,33 @@ put_over t r l k h b =
     let f : t + (k - t) ≡ k = omega arith in
     append_right (take t l) (r ∷ drop t l) t (k + 1) (length-take-le t l h) (omega arith) ∙ ap (λ (i : ℕ). get_or (r ∷ drop t l) i 0) e ∙ get_or-drop t l (k - t) 0 ∙ ap (λ (i : ℕ). get_or l i 0) f
 
+-- from element i on the first n have gone one further
+pub record Parting (p : List ℕ) (n i : ℕ) (q : List ℕ) : Type 0 where
+  pub long : length q ≡ length p
+  pub under : (k : ℕ) → k ≤ i → get_or q k 0 ≡ get_or p k 0
+  pub over : (k : ℕ) → i ≤ k → k < n → get_or q (k + 1) 0 ≡ get_or p k 0
+
+-- none yet
+pub part_none : (p : List ℕ) (n : ℕ) → Parting p n n p
+part_none p n = record { long = refl; under = λ k h. refl; over = λ k h l. absurd (omega arith) }
+
+-- one more
+pub part_more : (p : List ℕ) (n i : ℕ) (q : List ℕ) → 0 < i → i ≤ n → n < length p → Parting p n i q → Parting p n (i - 1) (set q i (get_or q (i - 1) 0))
+part_more p n i q z h l s = record {
+  long = length-set q i _ ∙ s.long;
+  under = λ k b. get_or-set_other q i k _ 0 (λ e. omega arith) ∙ s.under k (omega arith);
+  over = λ k b d. at k b d (ℕ_discrete (k + 1) i);
+}
+  where
+    at : (k : ℕ) → i - 1 ≤ k → k < n → Dec (k + 1 ≡ i) → get_or (set q i (get_or q (i - 1) 0)) (k + 1) 0 ≡ get_or p k 0
+    at k b d (yes e) =
+        let f : i - 1 ≡ k = omega arith in
+        rw e (get_or-set_same q i _ 0 (omega (arith, s.long)) ∙ s.under (i - 1) (omega arith)) ∙ ap (λ (x : ℕ). get_or p x 0) f
+    at k b d (no m) = get_or-set_other q i (k + 1) _ 0 m ∙ s.over k (omega arith) d
+
 -- those from element t on have gone one further, and the new one is in its place
-pub put_there : (p q : List ℕ) (n t r : ℕ) → length p ≡ n + 1 → t ≤ n → length q ≡ length p → SameBelow p q (t + 1) → CopiedTo p q t (t + 1) (n - t) → set q t r ≡ put_in t r (take n p)
-put_there p q n t r l h e under over = ext_get_or 0 _ _ (length-set q t r ∙ e ∙ l ∙ sym more) (λ k x. at k (omega (arith, x, length-set q t r, e, l)) (dec_lt k t) (ℕ_discrete k t))
+pub put_there : (p q : List ℕ) (n t r : ℕ) → length p ≡ n + 1 → t ≤ n → Parting p n t q → set q t r ≡ put_in t r (take n p)
+put_there p q n t r l h s = ext_get_or 0 _ _ (length-set q t r ∙ s.long ∙ l ∙ sym more) (λ k x. at k (omega (arith, x, length-set q t r, s.long, l)) (dec_lt k t) (ℕ_discrete k t))
   where
     long : length (take n p) ≡ n
     long = length-take-le n p (omega (arith, l))
@@ -112,31 +157,12 @@ put_there p q n t r l h e under over = ext_get_or 0 _ _ (length-set q t r ∙ e 
     more = omega (arith, put_length t r (take n p), long)
 
     at : (k : ℕ) → k < n + 1 → Dec (k < t) → Dec (k ≡ t) → get_or (set q t r) k 0 ≡ get_or (put_in t r (take n p)) k 0
-    at k x (yes y) z = get_or-set_other q t k r 0 (λ w. omega arith) ∙ under k 0 (omega arith) ∙ sym (get_or-take n p k 0 (omega arith)) ∙ sym (put_under t r (take n p) k (omega (arith, long)) y)
-    at k x (no y) (yes z) = rw z (get_or-set_same q t r 0 (omega (arith, e, l)) ∙ sym (put_here t r (take n p) (omega (arith, long))))
+    at k x (yes y) z = get_or-set_other q t k r 0 (λ w. omega arith) ∙ s.under k (omega arith) ∙ sym (get_or-take n p k 0 (omega arith)) ∙ sym (put_under t r (take n p) k (omega (arith, long)) y)
+    at k x (no y) (yes z) = rw z (get_or-set_same q t r 0 (omega (arith, s.long, l)) ∙ sym (put_here t r (take n p) (omega (arith, long))))
     at k x (no y) (no z) =
         let w : k - 1 + 1 ≡ k = omega arith in
-        let f : t + (k - (t + 1)) ≡ k - 1 = omega arith in
-        get_or-set_other q t k r 0 z ∙ over k 0 (omega arith) (omega arith) ∙ ap (λ (i : ℕ). get_or p i 0) f
+        get_or-set_other q t k r 0 z ∙ ap (λ (u : ℕ). get_or q u 0) (sym w) ∙ s.over (k - 1) (omega arith) (omega arith)
         ∙ sym (get_or-take n p (k - 1) 0 (omega arith)) ∙ sym (put_over t r (take n p) (k - 1) (omega (arith, long)) (omega arith)) ∙ ap (λ (u : ℕ). get_or (put_in t r (take n p)) u 0) w
-
--- one robot alone, and one beside another
-pub put_alone : (p : List ℕ) (t r : ℕ) → length p ≡ 1 → t < 1 → set p 0 r ≡ put_in t r (take (length p - 1) p)
-unfolding put_in
-put_alone [] t r e h = absurd (omega (arith, e))
-put_alone (x ∷ []) t r e h = let z : t ≡ 0 = omega arith in rw z
-put_alone (x ∷ y ∷ p) t r e h = absurd (omega (arith, e))
-
-pub put_pair : (p : List ℕ) (t r : ℕ) → length p ≡ 2 → t < 2 → set (set p (1 - t) (get_or p 0 0)) t r ≡ put_in t r (take (length p - 1) p)
-unfolding put_in
-put_pair [] t r e h = absurd (omega (arith, e))
-put_pair (x ∷ []) t r e h = absurd (omega (arith, e))
-put_pair (x ∷ y ∷ []) t r e h = at (ℕ_discrete t 0)
-  where
-    at : Dec (t ≡ 0) → set (set (x ∷ y ∷ []) (1 - t) x) t r ≡ take t (x ∷ []) ++ (r ∷ drop t (x ∷ []))
-    at (yes z) = rw z
-    at (no z) = let o : t ≡ 1 = omega arith in rw o
-put_pair (x ∷ y ∷ z ∷ p) t r e h = absurd (omega (arith, e))
 
 -- ---- a list turned
 

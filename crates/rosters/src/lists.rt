@@ -15,24 +15,20 @@ pub fn remove(part: &mut [u8], t: usize)
         part[0] = part[1 - t];
         return;
     }
-    part.copy_within(t + 1..n, t);
+    // In place of `copy_within`, as tried: that is a loop which ends unforeseen, and judging 8,000 hall steps went from 0.9 to 1.1 of Rust's time.
+    for i in t..n - 1 {
+        part[i] = part[i + 1];
+    }
 }
 
-// Puts robot r before the one at index t; the part's last byte is the room for it. A list of none or one needs no loop, and the one no branch.
+// Puts robot r before the one at index t; the part's last byte is the room for it.
 pub fn insert(part: &mut [u8], t: usize, r: u8)
     requires { t < length part.old }
     ensures { part.new ≡ put_in t r (take (length part.old - 1) part.old) }
 {
-    let n = part.len() - 1;
-    if n == 0 {
-        part[0] = r;
-        return;
+    // No `copy_within`, as above.
+    for i in (t..part.len() - 1).rev() {
+        part[i + 1] = part[i];
     }
-    if n == 1 {
-        part[1 - t] = part[0];
-        part[t] = r;
-        return;
-    }
-    part.copy_within(t..n, t + 1);
     part[t] = r;
 }
