@@ -1,7 +1,10 @@
 use Rattle.numbering.specs.Kind.{number_of, not_clique, not_ring}
-use mathlib.Core.Path.{ap, ◌∙◌}
+use mathlib.Core.Path.{◌≡◌, ap, ◌∙◌}
 use mathlib.Core.List.{List}
 use Prim.Native.Nat.{ℕ}
+use lib.ListN.{length}
+use borrow.Author.Rules.{rules}
+use Rattle.spec.specs.Terms.{Distinct}
 use Rattle.theory.specs.Zones.Crossing.{extra_of}
 use Rattle.spec.specs.Arrangement.{Move}
 use Rattle.spec.specs.State.{across, arrangement_of}
@@ -13,8 +16,11 @@ pub enter-requires : goal.enter-requires
 enter-requires c =
     let p = c.args in
     let f = c.requires in
-    let e = f.list_len ∙ ap (λ (k : ℕ). extra_of k (arrangement_of p.state.now p.zone.vertices.now)) (ap number_of c.in-Clique.is) in
-    rw c.short.ensures (record { list_len = e; numbered = f.numbered; distinct = f.proper.once })
+    let z = c.short.result.vertices.now in
+    let e : length p.list.now ≡ extra_of 3 (arrangement_of p.state.now z) =
+    rw c.short.ensures (f.list_len ∙ ap (λ (k : ℕ). extra_of k (arrangement_of p.state.now p.zone.vertices.now)) (ap number_of c.in-Clique.is)) in
+    let d : Distinct (arrangement_of p.state.now z) = rw c.short.ensures f.proper.once in
+    search rules
 
 pub returns-in-Clique : goal.returns-in-Clique
 returns-in-Clique c =
