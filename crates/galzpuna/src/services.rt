@@ -11,7 +11,7 @@ use crate::Answer;
 use answers::finish_file;
 use drawing::draw_moves;
 use motion::State;
-use opening::{Opened, open_list};
+use opening::{FiledMap, Opened, check_map, open_list};
 use planning::{judge_files, resolve_files};
 use refusals::Refusal;
 use timing::write_rounds;
@@ -62,9 +62,14 @@ fn resolve(map: &[u8], placing: &[u8], plan: &[u8], out: &mut [u8]) -> Result<us
     finish(out, count, FileKind::Moves, 2 + count * 3)
 }
 
-// Drawing: the bytes of the plan.
-fn draw(map: &[u8], placing: &[u8], moves: &[u8], out: &mut [u8]) -> Result<usize, Refusal>
-    ensures { Served (drawing map.now placing.now moves.now (length out.old)) result out.new }
+// Drawing, of a map whose blocks have passed: the bytes of the plan.
+fn draw_filed(
+    map: &FiledMap,
+    placing: &[u8],
+    moves: &[u8],
+    out: &mut [u8],
+) -> Result<usize, Refusal>
+    ensures { Served (drawing map.now.file.now placing.now moves.now (length out.old)) result out.new }
 {
     let Opened { yard, count } = open_list(map, placing, moves)?;
     let state = State::standing(yard.placing.starts, yard.placing.robots as usize);
@@ -72,9 +77,22 @@ fn draw(map: &[u8], placing: &[u8], moves: &[u8], out: &mut [u8]) -> Result<usiz
     finish(out, drawn.steps, FileKind::Plan, drawn.bytes)
 }
 
-// Rounds: the bytes of the round sheet.
-fn time(map: &[u8], placing: &[u8], moves: &[u8], out: &mut [u8]) -> Result<usize, Refusal>
-    ensures { Served (rounds map.now placing.now moves.now (length out.old)) result out.new }
+// Drawing, of any map; for one that is refused for its blocks no table is made ready.
+fn draw(map: &[u8], placing: &[u8], moves: &[u8], out: &mut [u8]) -> Result<usize, Refusal>
+    ensures { Served (drawing map.now placing.now moves.now (length out.old)) result out.new }
+{
+    let filed = check_map(map)?;
+    draw_filed(&filed, placing, moves, out)
+}
+
+// Rounds, of a map whose blocks have passed: the bytes of the round sheet.
+fn time_filed(
+    map: &FiledMap,
+    placing: &[u8],
+    moves: &[u8],
+    out: &mut [u8],
+) -> Result<usize, Refusal>
+    ensures { Served (rounds map.now.file.now placing.now moves.now (length out.old)) result out.new }
 {
     let Opened { count, .. } = open_list(map, placing, moves)?;
     write_rounds(moves, count, out);
@@ -84,6 +102,14 @@ fn time(map: &[u8], placing: &[u8], moves: &[u8], out: &mut [u8]) -> Result<usiz
         FileKind::Rounds,
         2 + count as usize * 2,
     )
+}
+
+// Rounds, of any map, as drawing.
+fn time(map: &[u8], placing: &[u8], moves: &[u8], out: &mut [u8]) -> Result<usize, Refusal>
+    ensures { Served (rounds map.now placing.now moves.now (length out.old)) result out.new }
+{
+    let filed = check_map(map)?;
+    time_filed(&filed, placing, moves, out)
 }
 
 // Judging: is the plan cleared? Nothing is written.

@@ -29,7 +29,7 @@ pub struct Opened {
     pub count: u16,
 }
 
-// A map's payload, where its blocks pass. Asked before rows and tables are made ready, which a refusal here does not need.
+// A map's payload, where its blocks pass. Each service asks it before it makes rows and tables ready, which a refusal here does not need.
 pub fn check_map(map: &[u8]) -> Result<FiledMap<'_>, Refusal>
     ensures { FiledIs map.now result }
 {
@@ -54,7 +54,7 @@ pub fn read_yard(map: &FiledMap, placed: &[u8], rows: &mut Rows) -> Result<Yard,
 }
 
 // Reads map, placing and move list, and checks the moves.
-fn open_filed(map: &FiledMap, placed: &[u8], moves: &[u8]) -> Result<Opened, Refusal>
+pub fn open_list(map: &FiledMap, placed: &[u8], moves: &[u8]) -> Result<Opened, Refusal>
     ensures { OpenedIs map.now.file.now placed.now moves.now result }
 {
     let mut rows = Rows::blank();
@@ -73,12 +73,4 @@ fn open_filed(map: &FiledMap, placed: &[u8], moves: &[u8]) -> Result<Opened, Ref
     } = yard.placing;
     let count = check_moves(list, graph, starts, goals, robots as usize)?;
     Ok(Opened { yard, count })
-}
-
-// The same of any map; for one that is refused for its blocks no table is made ready.
-pub fn open_list(map: &[u8], placed: &[u8], moves: &[u8]) -> Result<Opened, Refusal>
-    ensures { OpenedIs map.now placed.now moves.now result }
-{
-    let filed = check_map(map)?;
-    open_filed(&filed, placed, moves)
 }

@@ -38,24 +38,43 @@ fn read_filed(map: &FiledMap, placed: &[u8], plan: &[u8]) -> Result<Yard, Refusa
     Ok(yard)
 }
 
-// The same of any map, in document 01's order of files; for one that is refused for its blocks no table is made ready.
-fn read_cleared(map: &[u8], placed: &[u8], plan: &[u8]) -> Result<Yard, Refusal>
-    ensures { ClearedIs map.now placed.now plan.now result }
+// Judges a plan with its placing and a map whose blocks have passed.
+fn judge_filed(map: &FiledMap, placed: &[u8], plan: &[u8]) -> Result<(), Refusal>
+    ensures { JudgedIs map.now.file.now placed.now plan.now result }
 {
-    let filed = check_map(map)?;
-    read_filed(&filed, placed, plan)
-}
-
-// Judges a plan with its map and placing.
-pub fn judge_files(map: &[u8], placed: &[u8], plan: &[u8]) -> Result<(), Refusal>
-    ensures { JudgedIs map.now placed.now plan.now result }
-{
-    read_cleared(map, placed, plan)?;
+    read_filed(map, placed, plan)?;
     Ok(())
 }
 
+// Judges a plan with its map and placing, in document 01's order of files; for a map that is refused for its blocks no table is made ready.
+pub fn judge_files(map: &[u8], placed: &[u8], plan: &[u8]) -> Result<(), Refusal>
+    ensures { JudgedIs map.now placed.now plan.now result }
+{
+    let filed = check_map(map)?;
+    judge_filed(&filed, placed, plan)
+}
+
+// Judges a plan with its placing and a map whose blocks have passed, and resolves one that is cleared.
+fn resolve_filed(
+    map: &FiledMap,
+    placed: &[u8],
+    plan: &[u8],
+    out: &mut [u8],
+) -> Result<usize, Refusal>
+    ensures { PlannedIs map.now.file.now placed.now plan.now out.old result out.new }
+{
+    let Yard { map, placing } = read_filed(map, placed, plan)?;
+    let PlacingTables {
+        robots,
+        starts,
+        goals,
+    } = placing;
+    let too_long = Refusal::Answer(Undelivered::TooLong);
+    resolve_plan(plan, &map, starts, goals, robots as usize, out).map_err(|_| too_long)
+}
+
 // Judges a plan with its map and placing, and resolves one that is cleared: its moves are counted, and laid into the buffer after the two bytes of
-// the count.
+// the count. As in judging, the map's blocks are asked first.
 pub fn resolve_files(
     map: &[u8],
     placed: &[u8],
@@ -64,12 +83,6 @@ pub fn resolve_files(
 ) -> Result<usize, Refusal>
     ensures { PlannedIs map.now placed.now plan.now out.old result out.new }
 {
-    let Yard { map, placing } = read_cleared(map, placed, plan)?;
-    let PlacingTables {
-        robots,
-        starts,
-        goals,
-    } = placing;
-    let too_long = Refusal::Answer(Undelivered::TooLong);
-    resolve_plan(plan, &map, starts, goals, robots as usize, out).map_err(|_| too_long)
+    let filed = check_map(map)?;
+    resolve_filed(&filed, placed, plan, out)
 }

@@ -3,6 +3,7 @@ use Rattle.std.specs.Prelude.{◌≡◌, refl, List, ◌∷◌, ◌++◌, ℕ, s
 use Rattle.std.proofs.Common.{sym, ap, ◌∙◌, arith, length-set, length-drop}
 use Rattle.std.proofs.Math.Decide.{ℕ_discrete, dec_lt}
 use Rattle.std.proofs.Math.ListN.{get_or-append}
+use borrow.Rule.Slice.PartMut.{put_mid, same_len_mid}
 use Rattle.std.proofs.lemmas.List.{reverse-append, reverse-reverse}
 use lib.Seq.{length-take-le, get_or-take, get_or-drop, get_or-set_same, get_or-set_other, ext_get_or, get_or-append-add, take_all}
 use Rattle.orders.specs.Orders.{without, put_in, turned_by}
@@ -27,6 +28,31 @@ pub append_right : (xs ys : List ℕ) (n k : ℕ) → length xs ≡ n → n ≤ 
 append_right xs ys n k e h =
     let q : k ≡ length xs + (k - n) = omega (arith, e) in
     ap (λ (i : ℕ). get_or (xs ++ ys) i 0) q ∙ get_or-append-add xs ys (k - n) 0
+
+-- ---- a part in the middle put back, element by element
+
+module _ (p s : List ℕ) (a c : ℕ) (fits : a + c ≤ length p) (e : length s ≡ c) where
+  -- what stands before it
+  front : length (take a p) ≡ a
+  front = length-take-le a p (omega arith)
+
+  mid_before : (k : ℕ) → k < a → get_or (put_mid a c p s) k 0 ≡ get_or p k 0
+  mid_before k h = append_left (take a p) (s ++ drop c (drop a p)) a k front h ∙ get_or-take a p k 0 h
+
+  -- the part
+  mid_in : (k : ℕ) → a ≤ k → k < a + c → get_or (put_mid a c p s) k 0 ≡ get_or s (k - a) 0
+  mid_in k h l = append_right (take a p) (s ++ drop c (drop a p)) a k front h ∙ append_left s (drop c (drop a p)) c (k - a) e (omega arith)
+
+  -- what stands behind it
+  mid_after : (k : ℕ) → a + c ≤ k → get_or (put_mid a c p s) k 0 ≡ get_or p k 0
+  mid_after k h =
+      let back : a + (c + (k - a - c)) ≡ k = omega arith in
+      append_right (take a p) (s ++ drop c (drop a p)) a k front (omega arith) ∙ append_right s (drop c (drop a p)) c (k - a) e (omega arith)
+      ∙ get_or-drop c (drop a p) (k - a - c) 0 ∙ get_or-drop a p (c + (k - a - c)) 0 ∙ ap (λ (i : ℕ). get_or p i 0) back
+
+-- an element of the part that was lent
+lent_at : (p : List ℕ) (a c i k : ℕ) → i < c → a + i ≡ k → get_or (take c (drop a p)) i 0 ≡ get_or p k 0
+lent_at p a c i k h e = get_or-take c (drop a p) i 0 h ∙ get_or-drop a p i 0 ∙ ap (λ (x : ℕ). get_or p x 0) e
 
 -- ---- an element taken out
 
@@ -64,6 +90,22 @@ shift_more p t i q h l s = record {
     high : (k : ℕ) → t ≤ k → k < i + 1 → Dec (k ≡ i) → get_or (set q i (get_or q (i + 1) 0)) k 0 ≡ get_or p (k + 1) 0
     high k b d (yes e) = rw e (get_or-set_same q i _ 0 (omega (arith, s.long)) ∙ s.past (i + 1) (omega arith))
     high k b d (no n) = get_or-set_other q i k _ 0 n ∙ s.over k b (omega arith)
+
+-- in the part from element t on
+pub shift_mid : (p s : List ℕ) (t : ℕ) → t < length p → Shifting (take (length p - t) (drop t p)) 0 (length (take (length p - t) (drop t p)) - 1) s → Shifting p t (length p - 1) (put_mid t (length p - t) p s)
+shift_mid p s t h x =
+    let m : length (take (length p - t) (drop t p)) ≡ length p - t = length-take-le (length p - t) (drop t p) (omega (arith, length-drop t p)) in
+    let e : length s ≡ length p - t = x.long ∙ m in
+    record {
+      long = same_len_mid t (length p - t) p s x.long;
+      under = λ k b. mid_before p s t (length p - t) (omega arith) e k b;
+      over = λ k b d. mid_in p s t (length p - t) (omega arith) e k b (omega arith) ∙ x.over (k - t) (omega arith) (omega (arith, m)) ∙ lent_at p t (length p - t) (k - t + 1) (k + 1) (omega arith) (omega arith);
+      past = λ k b. last k b (dec_lt k (length p)) m e;
+    }
+  where
+    last : (k : ℕ) → length p - 1 ≤ k → Dec (k < length p) → length (take (length p - t) (drop t p)) ≡ length p - t → length s ≡ length p - t → get_or (put_mid t (length p - t) p s) k 0 ≡ get_or p k 0
+    last k b (yes d) m e = mid_in p s t (length p - t) (omega arith) e k (omega arith) (omega arith) ∙ x.past (k - t) (omega (arith, m)) ∙ lent_at p t (length p - t) (k - t) k (omega arith) (omega arith)
+    last k b (no d) m e = mid_after p s t (length p - t) (omega arith) e k (omega arith)
 
 -- as long, and the first are the list p without its element t
 abbrev pub TakenOut : List ℕ → ℕ → List ℕ → Type 0
@@ -145,6 +187,23 @@ part_more p n i q z h l s = record {
         let f : i - 1 ≡ k = omega arith in
         rw e (get_or-set_same q i _ 0 (omega (arith, s.long)) ∙ s.under (i - 1) (omega arith)) ∙ ap (λ (x : ℕ). get_or p x 0) f
     at k b d (no m) = get_or-set_other q i (k + 1) _ 0 m ∙ s.over k (omega arith) d
+
+-- in the part from element t on, with it
+pub part_mid : (p s : List ℕ) (t : ℕ) → t < length p → Parting (take (length p - t) (drop t p)) (length (take (length p - t) (drop t p)) - 1) 0 s → Parting p (length p - 1) t (put_mid t (length p - t) p s)
+part_mid p s t h x =
+    let m : length (take (length p - t) (drop t p)) ≡ length p - t = length-take-le (length p - t) (drop t p) (omega (arith, length-drop t p)) in
+    let c : length s ≡ length p - t = x.long ∙ m in
+    record {
+      long = same_len_mid t (length p - t) p s x.long;
+      under = λ k b. first k b (dec_lt k t) m c;
+      over = λ k b d.
+          let f : k + 1 - t ≡ k - t + 1 = omega arith in
+          mid_in p s t (length p - t) (omega arith) c (k + 1) (omega arith) (omega arith) ∙ ap (λ (i : ℕ). get_or s i 0) f ∙ x.over (k - t) (omega arith) (omega (arith, m)) ∙ lent_at p t (length p - t) (k - t) k (omega arith) (omega arith);
+    }
+  where
+    first : (k : ℕ) → k ≤ t → Dec (k < t) → length (take (length p - t) (drop t p)) ≡ length p - t → length s ≡ length p - t → get_or (put_mid t (length p - t) p s) k 0 ≡ get_or p k 0
+    first k b (yes d) m c = mid_before p s t (length p - t) (omega arith) c k d
+    first k b (no d) m c = mid_in p s t (length p - t) (omega arith) c k (omega arith) (omega arith) ∙ x.under (k - t) (omega arith) ∙ lent_at p t (length p - t) (k - t) k (omega arith) (omega arith)
 
 -- those from element t on have gone one further, and the new one is in its place
 pub put_there : (p q : List ℕ) (n t r : ℕ) → length p ≡ n + 1 → t ≤ n → Parting p n t q → set q t r ≡ put_in t r (take n p)

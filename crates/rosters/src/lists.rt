@@ -1,6 +1,18 @@
 // Lists of robots in lent bytes. An index and its list stay two values: one call finds it, and the next changes the list there.
 ghost use Rattle.std.specs.Prelude.{◌≡◌, ◌-◌, ◌<◌, length, take};
 ghost use Rattle.orders.specs.Orders.{without, put_in};
+ghost use Rattle.rosters.specs.Lists.{Shifting, Parting};
+
+// All but the first of a part come one nearer. As a function of the part alone, here and below, the loop is compiled to one move of memory, which is
+// quicker than `copy_within` and than a loop from an index on.
+fn shift_down(part: &mut [u8])
+    requires { 0 < length part.old }
+    ensures { Shifting part.old 0 (length part.old - 1) part.new }
+{
+    for i in 0..part.len() - 1 {
+        part[i] = part[i + 1];
+    }
+}
 
 // Takes the robot at index t out; the part's last byte is left over. A list of one or two needs no loop, and the pair no branch.
 pub fn remove(part: &mut [u8], t: usize)
@@ -15,9 +27,16 @@ pub fn remove(part: &mut [u8], t: usize)
         part[0] = part[1 - t];
         return;
     }
-    // In place of `copy_within`, as tried: with it judging halls and rings mispredicts a tenth to a quarter more branches.
-    for i in t..n - 1 {
-        part[i] = part[i + 1];
+    shift_down(&mut part[t..]);
+}
+
+// All but the last of a part go one further.
+fn shift_up(part: &mut [u8])
+    requires { 0 < length part.old }
+    ensures { Parting part.old (length part.old - 1) 0 part.new }
+{
+    for i in (0..part.len() - 1).rev() {
+        part[i + 1] = part[i];
     }
 }
 
@@ -26,9 +45,6 @@ pub fn insert(part: &mut [u8], t: usize, r: u8)
     requires { t < length part.old }
     ensures { part.new ≡ put_in t r (take (length part.old - 1) part.old) }
 {
-    // No `copy_within`, as above.
-    for i in (t..part.len() - 1).rev() {
-        part[i + 1] = part[i];
-    }
+    shift_up(&mut part[t..]);
     part[t] = r;
 }
