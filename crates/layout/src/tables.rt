@@ -1,5 +1,5 @@
 // The tables of a map that was read: one by vertices is indexed by a vertex, one by zones by a zone, and by nothing else.
-ghost use Rattle.std.specs.Prelude.{◌≡◌, ◌↔◌, ◌+◌, ◌<◌, ◌≤◌, IsTrue, get_or};
+ghost use Rattle.std.specs.Prelude.{◌≡◌, ◌↔◌, ◌+◌, ◌<◌, ◌≤◌, IsTrue, length, get_or};
 ghost use Rattle.numbering.specs.Kind.{number_of};
 ghost use Rattle.layout.specs.Lists.{HasPart, part_of};
 
@@ -71,11 +71,42 @@ impl MapTables {
         self.first[z.0 as usize] as usize
     }
 
+    // A zone's entry in the table of kinds, and in that of first positions; 0 where there is none.
+    pub fn kind_entry(&self, z: Zone) -> u8
+        ensures { result ≡ get_or self.now.kind z.0 0 }
+    {
+        match self.kind.get(z.0 as usize) {
+            Some(kind) => kind.number(),
+            None => 0,
+        }
+    }
+
+    pub fn first_entry(&self, z: Zone) -> u8
+        ensures { result ≡ get_or self.now.first z.0 0 }
+    {
+        entry(&self.first, z.0 as usize, 0)
+    }
+
     // The size of a zone; 0 where there is none.
     pub fn size_of(&self, z: Zone) -> usize
         ensures { result ≡ get_or self.now.size z.0 0 }
     {
         entry(&self.size, z.0 as usize, 0) as usize
+    }
+
+    // How many vertices the listing has a place for.
+    pub fn room(&self) -> usize
+        ensures { (result ≡ 128) × (length self.now.listed ≡ 128) }
+    {
+        let listed: &[u8] = &self.listed;
+        listed.len()
+    }
+
+    // The vertex at a position of the listing; 0 past its end.
+    pub fn vertex_at(&self, i: usize) -> Vertex
+        ensures { result.0 ≡ get_or self.now.listed i 0 }
+    {
+        Vertex(entry(&self.listed, i, 0))
     }
 
     // The vertices of a zone in listed order.
