@@ -1,6 +1,6 @@
 // Lists of robots in lent bytes. An index and its list stay two values: one call finds it, and the next changes the list there.
-ghost use Rattle.std.specs.Prelude.{◌≡◌, ◌-◌, ◌<◌, length, take};
-ghost use Rattle.orders.specs.Orders.{without, put_in};
+ghost use Rattle.std.specs.Prelude.{◌≡◌, ◌-◌, ◌≤◌, ◌<◌, length, take};
+ghost use Rattle.orders.specs.Orders.{without, put_in, turned_by};
 
 // Takes the robot at index t out; the part's last byte is left over. A list of one or two needs no loop, and the pair no branch.
 pub fn remove(part: &mut [u8], t: usize)
@@ -31,4 +31,15 @@ pub fn insert(part: &mut [u8], t: usize, r: u8)
         part[i + 1] = part[i];
     }
     part[t] = r;
+}
+
+// Turns a list: its element q comes first. `rotate_left` clears a room of 4,096 bytes at each call.
+pub fn turn(list: &mut [u8], q: usize)
+    requires { q ≤ length list.old }
+    ensures { list.new ≡ turned_by q list.old }
+{
+    let (front, back) = list.split_at_mut(q);
+    front.reverse();
+    back.reverse();
+    list.reverse();
 }
