@@ -2,7 +2,7 @@
 ghost use Rattle.std.specs.Prelude.{◌≡◌, List, ℕ, suc, ◌+◌, ◌-◌, ◌*◌, ◌/◌, ◌≤◌, ◌<◌, length, take};
 ghost use Rattle.spec.specs.Ring.{wrap};
 ghost use Rattle.numbering.specs.Kind.{number_of};
-ghost use Rattle.orders.specs.Orders.{entry_in, turned_by, ring_entered, entered};
+ghost use Rattle.orders.specs.Orders.{entry_in, ring_entered, entered};
 ghost use Rattle.orders.specs.Orders.{list_met, clique_enters, ring_enters, hall_enters, enter_test};
 ghost use Rattle.walking.specs.Held.{held_part};
 ghost use Rattle.configurations.specs.Entering.{EntryIndex, EntryFound, entry_on};
@@ -11,7 +11,7 @@ use numbering::{Robot, ZoneKind};
 use reaching::reach::has_room;
 use rosters::Spot;
 use rosters::finding::index_in;
-use rosters::lists::{insert, remove};
+use rosters::lists::{insert, remove, turn};
 use rosters::members::same_members;
 use walking::copy_list;
 
@@ -99,17 +99,6 @@ fn turn_count(n: usize, t: usize, j: usize) -> usize
         return n - (j - t);
     }
     t - j
-}
-
-// Turns a list: its element q comes first. `rotate_left` clears a room of 4,096 bytes at each call.
-fn turn(list: &mut [u8], q: usize)
-    requires { q ≤ length list.old }
-    ensures { list.new ≡ turned_by q list.old }
-{
-    let (front, back) = list.split_at_mut(q);
-    front.reverse();
-    back.reverse();
-    list.reverse();
 }
 
 // A robot comes into a ring at this spot, before the one at index t; where that fills the ring, it is turned so that the robot stands there.

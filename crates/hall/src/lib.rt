@@ -38,7 +38,7 @@ fn make_way<F: Fn(&[u8]) -> usize>(
     let mut goals = [0u8; 128];
     let n = line_up(state, zone, &mut line, &mut places);
     let t = below(&line[..n]);
-    spread(&places[..n], t, m, j, &mut goals);
+    spread(&places[..n], t, t.saturating_add(m), j, &mut goals);
     settle(
         state,
         count,

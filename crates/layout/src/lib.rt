@@ -13,7 +13,7 @@ use std::marker::Model;
 
 // A map. Zone z has the kind kind[z] and the vertices listed[first[z]] to listed[first[z] + size[z] - 1]; vertex v stands in zone
 // zone[v] at place place[v].
-#[derive(Drop)]
+#[derive(Clone, Copy)]
 pub struct MapTables {
     vertices: u8,
     zones: u8,
@@ -30,9 +30,13 @@ impl Model for MapTables {
 
     ghost Value = { MapLists };
 
-    ghost use Rattle.layout.specs.View.{view_of, Whole};
+    ghost use Rattle.layout.specs.View.{view_of, held_in, held_again, Whole};
 
     ghost view = { view_of };
 
     ghost invariant = { Whole };
+
+    ghost inverse = { held_in };
+
+    ghost inverse_ok = { λ a h. held_again a };
 }

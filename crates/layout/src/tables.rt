@@ -1,5 +1,5 @@
 // The tables of a map that was read: one by vertices is indexed by a vertex, one by zones by a zone, and by nothing else.
-ghost use Rattle.std.specs.Prelude.{◌≡◌, ◌↔◌, ◌+◌, ◌<◌, ◌≤◌, IsTrue, get_or};
+ghost use Rattle.std.specs.Prelude.{◌≡◌, ◌↔◌, ◌+◌, ◌<◌, ◌≤◌, IsTrue, length, get_or};
 ghost use Rattle.numbering.specs.Kind.{number_of};
 ghost use Rattle.layout.specs.Lists.{HasPart, part_of};
 
@@ -43,6 +43,21 @@ impl MapTables {
         entry(&self.place, v.0 as usize, 0) as usize
     }
 
+    // The same two of a vertex that is one of 128, looked up without a test: judging asks them at each step.
+    pub fn zone_at(&self, v: Vertex) -> Zone
+        requires { v.0 < 128 }
+        ensures { result.0 ≡ get_or self.now.zone v.0 0 }
+    {
+        Zone(self.zone[v.0 as usize])
+    }
+
+    pub fn place_at(&self, v: Vertex) -> usize
+        requires { v.0 < 128 }
+        ensures { result ≡ get_or self.now.place v.0 0 }
+    {
+        self.place[v.0 as usize] as usize
+    }
+
     // Is a zone one of the tables', with its vertices in the listing?
     pub fn has_part(&self, z: Zone) -> bool
         ensures part { IsTrue result ↔ HasPart self.now z.0 }
@@ -71,11 +86,50 @@ impl MapTables {
         self.first[z.0 as usize] as usize
     }
 
+    // A zone's entry in the table of kinds, and in that of first positions; 0 where there is none.
+    pub fn kind_entry(&self, z: Zone) -> u8
+        ensures { result ≡ get_or self.now.kind z.0 0 }
+    {
+        match self.kind.get(z.0 as usize) {
+            Some(kind) => kind.number(),
+            None => 0,
+        }
+    }
+
+    pub fn first_entry(&self, z: Zone) -> u8
+        ensures { result ≡ get_or self.now.first z.0 0 }
+    {
+        entry(&self.first, z.0 as usize, 0)
+    }
+
     // The size of a zone; 0 where there is none.
     pub fn size_of(&self, z: Zone) -> usize
         ensures { result ≡ get_or self.now.size z.0 0 }
     {
         entry(&self.size, z.0 as usize, 0) as usize
+    }
+
+    // The same of one of 64 zones, looked up without a test.
+    pub fn size_at(&self, z: Zone) -> usize
+        requires { z.0 < 64 }
+        ensures { result ≡ get_or self.now.size z.0 0 }
+    {
+        self.size[z.0 as usize] as usize
+    }
+
+    // How many vertices the listing has a place for.
+    pub fn room(&self) -> usize
+        ensures { (result ≡ 128) × (length self.now.listed ≡ 128) }
+    {
+        let listed: &[u8] = &self.listed;
+        listed.len()
+    }
+
+    // The vertex at a position of the listing; 0 past its end.
+    pub fn vertex_at(&self, i: usize) -> Vertex
+        ensures { result.0 ≡ get_or self.now.listed i 0 }
+    {
+        Vertex(entry(&self.listed, i, 0))
     }
 
     // The vertices of a zone in listed order.

@@ -1,5 +1,5 @@
 -- The code's state as the meaning's.
-use Rattle.std.specs.Prelude.{◌≡◌, refl, ℕ, zero, suc, ◌+◌, ◌-◌, ◌<◌, ◌≤◌, min, List, [], ◌∷◌, ◌++◌, map, length, get_or, set, take, replicate}
+use Rattle.std.specs.Prelude.{◌≡◌, refl, ℕ, suc, ◌+◌, ◌-◌, ◌<◌, ◌≤◌, min, List, [], ◌∷◌, ◌++◌, map, length, get_or, set, take, replicate}
 use Rattle.std.proofs.Common.{ap, ap₂, sym, ◌∙◌, append_assoc, add-one, arith, length-set, length-take, take-suc, take_all, length-take-le}
 use Rattle.std.proofs.Math.Decide.{dec_lt}
 use Rattle.std.proofs.lemmas.List.{length-map, map-set, set_at}
@@ -20,6 +20,31 @@ vertex_no v = v.0
 -- the state's numbers
 abbrev pub state_of : Inside → meaning.State
 state_of s = record { robots = map robot_no s.robots; vertices = map vertex_no s.vertices }
+
+abbrev pub code_state : List Robot → List Vertex → Inside
+code_state a b = record { robots = a; vertices = b }
+
+-- the robots and vertices that have a state's numbers
+abbrev pub robot_at : ℕ → Robot
+robot_at n = record { 0 = n }
+
+abbrev pub vertex_at : ℕ → Vertex
+vertex_at n = record { 0 = n }
+
+abbrev pub held_in : meaning.State → Inside
+held_in s = record { robots = map robot_at s.robots; vertices = map vertex_at s.vertices }
+
+robots_again : (l : List Robot) → map robot_at (map robot_no l) ≡ l
+robots_again [] = refl
+robots_again (r ∷ l) = ap (λ (k : List Robot). r ∷ k) (robots_again l)
+
+vertices_again : (l : List Vertex) → map vertex_at (map vertex_no l) ≡ l
+vertices_again [] = refl
+vertices_again (v ∷ l) = ap (λ (k : List Vertex). v ∷ k) (vertices_again l)
+
+-- a state's numbers give it back
+pub held_again : (s : Inside) → held_in (state_of s) ≡ s
+held_again s = ap₂ (λ (a : List Robot) (b : List Vertex). code_state a b) (robots_again s.robots) (vertices_again s.vertices)
 
 abbrev numbers : List ℕ → List ℕ → meaning.State
 numbers a b = record { robots = a; vertices = b }
@@ -43,9 +68,6 @@ with_robot s v r = record { robots = set s.robots v r; vertices = s.vertices }
 
 abbrev pub with_vertex : Inside → ℕ → Vertex → Inside
 with_vertex s r v = record { robots = s.robots; vertices = set s.vertices r v }
-
-abbrev pub code_state : List Robot → List Vertex → Inside
-code_state a b = record { robots = a; vertices = b }
 
 -- from is emptied, then the robot is put on to and listed there
 pub moved_leaves : (s a b t : Inside) (r : Robot) (f v : Vertex)

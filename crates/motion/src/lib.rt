@@ -17,7 +17,7 @@ use writer::put_three;
 pub use zone::ListedVertices;
 
 // "A state holds the cart on each point and the point of each cart": 255 is no robot, and no vertex.
-#[derive(Drop)]
+#[derive(Clone, Copy)]
 pub struct State {
     robots: [Robot; 128],
     vertices: [Vertex; 64],
@@ -28,9 +28,13 @@ impl Model for State {
 
     ghost Value = { meaning.State };
 
-    ghost use Rattle.motion.specs.States.{state_of};
+    ghost use Rattle.motion.specs.States.{state_of, held_in, held_again};
 
     ghost view = { state_of };
+
+    ghost inverse = { held_in };
+
+    ghost inverse_ok = { λ s h. held_again s };
 }
 
 impl State {
@@ -48,11 +52,12 @@ impl State {
         State { robots, vertices }
     }
 
-    // How many vertices a state has a place for.
+    // How many vertices a state has a place for. It has one for 64 robots.
     pub fn room(&self) -> usize
-        ensures { (result ≡ 128) × (length self.now.robots ≡ 128) }
+        ensures { (result ≡ 128) × (length self.now.robots ≡ 128) × (length self.now.vertices ≡ 64) }
     {
         let robots: &[Robot] = &self.robots;
+        let _vertices: &[Vertex] = &self.vertices;
         robots.len()
     }
 

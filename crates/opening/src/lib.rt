@@ -16,14 +16,14 @@ use wire::{FileKind, FiledPayload};
 use zoning::PayloadBytes;
 
 // A map and a placing that are accepted.
-#[derive(Drop)]
+#[derive(Clone, Copy)]
 pub struct Yard {
     pub map: MapTables,
     pub placing: PlacingTables,
 }
 
 // A map, a placing and a move list of `count` moves that is legal and reaches the goals.
-#[derive(Drop)]
+#[derive(Clone, Copy)]
 pub struct Opened {
     pub yard: Yard,
     pub count: u16,

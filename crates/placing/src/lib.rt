@@ -1,13 +1,14 @@
 // A placing read from its file, accepted or refused (document 01, "Block files").
 #![tactic(auto)]
 
-ghost use Rattle.std.specs.Prelude.{◌≡◌, ℕ, List, ◌≤◌};
+ghost use Rattle.std.specs.Prelude.{◌≡◌, ℕ, List, ◌≤◌, get_or};
 ghost use Rattle.spec.specs.Layout.{Map, placing_of};
 ghost use Rattle.zoning.specs.Bytes.{bytes};
 ghost use Rattle.placing.specs.declared.PlacingFault.TheVariants.{File};
 ghost use Rattle.placing.specs.Placing.{placing_in, Marked, VertexIs, RobotsAre, PlacingIs};
 
 use checking::{FileFault, check_file};
+use numbering::{Robot, Vertex};
 use wire::FileKind;
 use zoning::PayloadBytes;
 
@@ -101,4 +102,11 @@ pub fn read_placing(file: &[u8], n: usize) -> Result<PlacingTables, PlacingFault
 {
     let len = check_file(file, FileKind::Placing)?;
     read_payload(&PayloadBytes { file, len }, n)
+}
+
+// A robot's entry in the table of starts or of goals; 0 past the end.
+pub fn vertex_of(table: &[u8; 64], r: Robot) -> Vertex
+    ensures { result.0 ≡ get_or table.now r.0 0 }
+{
+    Vertex(table.get(r.0 as usize).copied().unwrap_or(0))
 }

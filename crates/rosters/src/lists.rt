@@ -1,6 +1,6 @@
 // Lists of robots in lent bytes. An index and its list stay two values: one call finds it, and the next changes the list there.
-ghost use Rattle.std.specs.Prelude.{◌≡◌, ◌-◌, ◌<◌, length, take};
-ghost use Rattle.orders.specs.Orders.{without, put_in};
+ghost use Rattle.std.specs.Prelude.{◌≡◌, ◌-◌, ◌≤◌, ◌<◌, length, take};
+ghost use Rattle.orders.specs.Orders.{without, put_in, turned_by};
 ghost use Rattle.rosters.specs.Lists.{Shifting, Parting};
 
 // All but the first of a part come one nearer. As a function of the part alone, here and below, the loop is compiled to one move of memory, which is
@@ -47,4 +47,15 @@ pub fn insert(part: &mut [u8], t: usize, r: u8)
 {
     shift_up(&mut part[t..]);
     part[t] = r;
+}
+
+// Turns a list: its element q comes first. `rotate_left` clears a room of 4,096 bytes at each call.
+pub fn turn(list: &mut [u8], q: usize)
+    requires { q ≤ length list.old }
+    ensures { list.new ≡ turned_by q list.old }
+{
+    let (front, back) = list.split_at_mut(q);
+    front.reverse();
+    back.reverse();
+    list.reverse();
 }

@@ -75,14 +75,14 @@ impl Lists {
         requires { FitsOn map.now self.now v.0 }
         ensures { SpotOf map.now self.now v.0 result }
     {
-        let zone = map.zone_of(v);
+        let zone = map.zone_at(v);
         Spot {
             zone,
             kind: map.kind_of(zone),
             first: map.first_of(zone),
-            size: map.size_of(zone),
+            size: map.size_at(zone),
             count: self.counts[zone.0 as usize] as usize,
-            place: map.place_of(v),
+            place: map.place_at(v),
         }
     }
 }

@@ -17,7 +17,8 @@ pub fn are_numbered(map: &MapTables, k: usize, r: Robot, u: Vertex, v: Vertex) -
 
 // Does an edge lead from u to v, in another zone?
 pub fn is_crossing(map: &MapTables, rows: &[[u64; 2]; 128], u: Vertex, v: Vertex) -> bool
+    requires { (u.0 < 128) × (v.0 < 128) }
     ensures { (m : Map) (k : ℕ) → GivenOn m k map.now rows.now → u.0 < map.now.vertices → v.0 < map.now.vertices → result ≡ crosses m u.0 v.0 }
 {
-    adjacency::joined(rows, u, v) && map.zone_of(u) != map.zone_of(v)
+    adjacency::joined(rows, u, v) && map.zone_at(u) != map.zone_at(v)
 }

@@ -1,18 +1,18 @@
-use Rattle.std.proofs.Common.{◌+◌, arith}
+use Rattle.std.proofs.Common.{arith}
 use Rattle.lineup.specs.Goals.{goal_below, goal_on, goal_above}
 use Rattle.lineup.proofs.goals.goal.Goals as goal
 
 pub returns-then-i-t : goal.returns-then-i-t
 returns-then-i-t c =
     let a = c.args in
-    omega (arith, goal_below a.t (a.t + a.m) a.j.index a.i a.p c.if-i-t.true)
+    omega (arith, goal_below a.t a.u a.j.index a.i a.p c.if-i-t.true)
 
-pub returns-then-k-m : goal.returns-then-k-m
-returns-then-k-m c =
+pub returns-then-i-u : goal.returns-then-i-u
+returns-then-i-u c =
     let a = c.args in
-    omega (arith, goal_on a.t (a.t + a.m) a.j.index a.i a.p c.if-i-t.false (omega arith))
+    omega (arith, goal_on a.t a.u a.j.index a.i a.p c.if-i-t.false (omega arith))
 
 pub returns : goal.returns
 returns c =
     let a = c.args in
-    omega (arith, goal_above a.t (a.t + a.m) a.j.index a.i a.p c.if-i-t.false (omega arith))
+    omega (arith, goal_above a.t a.u a.j.index a.i a.p c.if-i-t.false (omega arith))

@@ -23,6 +23,11 @@ returns-then-not-is_crossing c =
     edge_off a.p.file.now a.p.len a.o a.map.now.vertices a.k a.map.now.kind a.map.now.first a.map.now.size a.map.now.listed a.map.now.zone a.map.now.place a.rows.now a.lists.now.counts a.lists.now.cells a.p.inside (omega (arith, c.if-p-o-lt4.false, c.requires.o_in_bounds)) _ c.payload_four-bytes.ensures (sym c.are_numbered.ensures ∙ c.if-not-are_numbered.false)
     (λ m d. sym (c.is_crossing.ensures m a.k d below.0 below.1) ∙ c.if-not-is_crossing.true)
 
+pub is_crossing-requires : goal.is_crossing-requires
+is_crossing-requires c =
+    let below = numbers_in _ _ _ _ _ (sym c.are_numbered.ensures ∙ c.if-not-are_numbered.false) in
+    ((ready_fits c.requires.ready _ below.0).below, (ready_fits c.requires.ready _ below.1).below)
+
 pub leave_at-stood-requires : goal.leave_at-stood-requires
 leave_at-stood-requires c =
     ready_fits c.requires.ready _ (numbers_in _ _ _ _ _ (sym c.are_numbered.ensures ∙ c.if-not-are_numbered.false)).0

@@ -5,7 +5,7 @@ use Rattle.testing.proofs.tests.is_crossing.Goals as goal
 pub returns-then-joined : goal.returns-then-joined
 returns-then-joined c = λ m k d hu hv.
     let t = c.args.map.now in
-    c.ne.ensures ∙ rw (c.zone_of.ensures.below (omega (arith, hu, d.vertices, d.accepted.small)), c.zone_of-then-joined.ensures.below (omega (arith, hv, d.vertices, d.accepted.small))) (crosses_zones m t.vertices k t.kind t.first t.size t.listed t.zone t.place _ d _ _ hu hv (sym c.joined.ensures ∙ c.if-joined.true))
+    c.ne.ensures ∙ rw (c.zone_at.ensures, c.zone_at-then-joined.ensures) (crosses_zones m t.vertices k t.kind t.first t.size t.listed t.zone t.place _ d _ _ hu hv (sym c.joined.ensures ∙ c.if-joined.true))
 
 pub returns-else-joined : goal.returns-else-joined
 returns-else-joined c = λ m k d hu hv.

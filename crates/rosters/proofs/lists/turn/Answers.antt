@@ -1,6 +1,6 @@
 use Rattle.std.proofs.Common.{◌∙◌, List, ℕ, ◌++◌, reverse, ap, ap₂}
 use Rattle.rosters.specs.Lists.{turned_round}
-use Rattle.configurations.proofs.entering.turn.Goals as goal
+use Rattle.rosters.proofs.lists.turn.Goals as goal
 
 pub returns : goal.returns
 returns c =
