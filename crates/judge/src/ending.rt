@@ -37,9 +37,10 @@ fn fill_zone(state: &State, map: &MapTables, z: Zone, lists: &mut Lists)
 
 // Every zone's list.
 pub fn lists_of(state: &State, map: &MapTables) -> Lists
-    requires { ((z : ℕ) → z < map.now.zones → ZoneOn map.now z) × (length map.now.listed ≡ 128) }
+    requires { (z : ℕ) → z < map.now.zones → ZoneOn map.now z }
     ensures { (length result.cells ≡ length map.now.listed) × (length result.counts ≡ 64) × ((m : Map) (k : ℕ) (rows : List (List ℕ)) → GivenOn m k map.now rows → zone_count m ≡ map.now.zones → Consistent m k state.now → HeldOn m map.now result state.now) }
 {
+    let _room = map.room();
     let mut lists = Lists {
         cells: [0; 128],
         counts: [0; 64],

@@ -1,5 +1,5 @@
 // A whole plan judged on the lists: the count, the steps, the surplus, the goals.
-ghost use Rattle.std.specs.Prelude.{◌≡◌, length, take};
+ghost use Rattle.std.specs.Prelude.{◌≡◌, take};
 ghost use Rattle.spec.specs.Layout.{Map, Placing};
 ghost use Rattle.spec.specs.Terms.{zone_count};
 ghost use Rattle.theory.specs.Maps.Placing.{Placed};
@@ -23,7 +23,6 @@ pub fn judge_plan(
     goals: [u8; 64],
     k: usize,
 ) -> Result<(), PlanFault>
-    requires listed { length map.now.listed ≡ 128 }
     requires placement { PlacementOn map.now k rows.now starts goals }
     ensures { (m : Map) (pl : Placing) → GivenOn m k map.now rows.now → zone_count m ≡ map.now.zones → Placed m.size pl → pl.starts ≡ take k starts → pl.goals ≡ take k goals → JudgedTo m pl (take p.entry.len (payload p.entry.file.now)) result }
 {

@@ -177,11 +177,11 @@ module _ (a b c : List ℕ) where
     planned o₀ o r s w h = record { resolved = go r s w.either h; long = w.long }
       where
         go : (r : Result ℕ TooManyMoves) (s : Result ℕ Refusal)
-            → MatchResult r (ResolvedTo y.yard.it.graph y.yard.it.placing (take y.len (payload c)) o₀ o) (λ _. (n : ℕ) × OverTo y.yard.it.graph y.yard.it.placing (take y.len (payload c)) n)
+            → MatchResult r (ResolvedTo y.yard.it.graph y.yard.it.placing (take y.len (payload c)) o₀ o) (λ f. OverTo y.yard.it.graph y.yard.it.placing (take y.len (payload c)) f.made)
             → MatchResult r (λ n. s ≡ Ok n) (λ f. s ≡ Err (refusal.Answer TooLong)) → Resolved a b c o₀ s o
         go (Ok n) (Ok n') w h =
             let e : n' ≡ n = cc in
             record { moves = w.moves; resolved = plan_on t pl y.rows y.yard y.len y.read ∙ w.answer; counted = e ∙ w.counted; laid = w.buffer }
         go (Ok n) (Err e) w h = cc
         go (Err f) (Ok n) w h = cc
-        go (Err f) (Err e) w h = let x : e ≡ refusal.Answer TooLong = cc in inr (x, record { moves = y.moves; resolved = judged_moves; over = omega (arith, w.1.over, w.1.most y.moves y.resolved) })
+        go (Err f) (Err e) w h = let x : e ≡ refusal.Answer TooLong = cc in inr (x, record { moves = y.moves; resolved = judged_moves; over = omega (arith, w.over, w.most y.moves y.resolved) })

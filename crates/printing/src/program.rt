@@ -7,7 +7,9 @@ use std::rt::Files;
 use std::{fs, io};
 
 // Reads a file into the buffer, as far as it goes; a missing file has no bytes.
-fn read_file<'b, R: Files>(rt: &R, name: &str, buffer: &'b mut [u8]) -> &'b [u8] {
+fn read_file<'b, R: Files>(rt: &R, name: &str, buffer: &'b mut [u8]) -> &'b [u8]
+    ensures { length result.now ≤ length buffer.old }
+{
     match fs::open(rt, name) {
         Ok(mut file) => {
             let n = read_full(&mut file, buffer);

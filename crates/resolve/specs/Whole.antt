@@ -40,12 +40,12 @@ pub record OverTo (m : Map) (pl : Placing) (p : List ℕ) (c : ℕ) : Type 0 whe
 
 -- the list resolved, or given up since it is too long in any case
 pub record ResolvedOr (m : Map) (pl : Placing) (p o₀ o : List ℕ) (r : Result ℕ TooManyMoves) : Type 0 where
-  pub either : MatchResult r (ResolvedTo m pl p o₀ o) (λ _. (c : ℕ) × OverTo m pl p c)
+  pub either : MatchResult r (ResolvedTo m pl p o₀ o) (λ e. OverTo m pl p e.made)
   pub long : length o ≡ length o₀
 
 -- what a walk comes to, or that it was given up
 abbrev pub WalkedTo : Map → ℕ → List ℕ → ℕ → World → Result ℕ TooManyMoves → meaning.State → List ℕ → Type 0
-WalkedTo m k p n w₀ r s o = MatchResult r (λ made. (next : ℕ) × WalkOf m k p n w₀ (world s made o) next) (λ _. (made : ℕ) × OverOf m k p n w₀ (world s made o))
+WalkedTo m k p n w₀ r s o = MatchResult r (λ made. (next : ℕ) × WalkOf m k p n w₀ (world s made o) next) (λ e. OverOf m k p n w₀ (world s e.made o))
 
 -- a resolved list is far below the count's bound
 few_moves : (m : Map) → Accepted m → zone_count m ≤ 64 → (pl : Placing) (p : List ℕ) (ms : List Move) → length p ≤ 32256 → resolved_moves m pl p ≡ ok ms → length ms ≤ most_moves
@@ -121,13 +121,13 @@ module _ (f : List ℕ) (zones k : ℕ) (kind first size listed zone place start
       )
 
   -- a walk that was given up: any list is too long
-  pub cleared_over : (r : TooManyMoves) (w : World) → OverOf x.on.map k p n (fresh s o₀) w → ResolvedOr x.on.map x.on.placing p o₀ w.buffer (Err r)
-  cleared_over r w d = record {
-    either = (w.count, record { over = d.over; most = long });
+  pub cleared_over : (r : TooManyMoves) (t : meaning.State) (o : List ℕ) → OverOf x.on.map k p n (fresh s o₀) (world t r.made o) → ResolvedOr x.on.map x.on.placing p o₀ o (Err r)
+  cleared_over r t o d = record {
+    either = record { over = d.over; most = long };
     long = ap (λ (y : World). length y.buffer) d.reached ∙ buffer_length (fresh s o₀) d.moves;
   }
     where
-      long : (ms : List Move) → resolved_moves x.on.map x.on.placing p ≡ ok ms → w.count ≤ length ms
+      long : (ms : List Move) → resolved_moves x.on.map x.on.placing p ≡ ok ms → r.made ≤ length ms
       long ms y =
           let h : length d.moves ≤ length ms = over_most d.rest d.moves ms (ap (resolved_on x.on.map x.on.placing p n) (sym d.all) ∙ sym cleared_left ∙ y) in
           let b : length ms ≤ most_moves = few ms y in

@@ -31,7 +31,7 @@ pub fn walk(
     for i in 0..steps {
         let over = 21503 < made;
         if over {
-            return Err(TooManyMoves);
+            return Err(TooManyMoves { made });
         }
         let e = list_length_at(map, state, Vertex(four.third));
         let next = o + 4 + e;

@@ -19,7 +19,7 @@ returns-in_err-len c =
     rw (p.1, p.2) (cleared_file c.args.map.now.file.now c.args.placed.now c.args.plan.now _ _ _ c.in_ok-yard.ensures _ (told.file_refused c.args.plan.now 30 3 64 PlanFile k.result (k.ensures.by_index 30) _ (told.plan_file_refused c.args.plan.now) c.in_err-len.ensures.cases))
 
 pub judge_plan-requires : goal.judge_plan-requires
-judge_plan-requires c = record { listed = c.in_ok-yard.ensures.held.long_listed; placement = rw c.words.ensures (yard_placement _ _ _ _ _ c.in_ok-yard.ensures) }
+judge_plan-requires c = record { placement = rw c.words.ensures (yard_placement _ _ _ _ _ c.in_ok-yard.ensures) }
 
 pub returns-in_err-judge_plan : goal.returns-in_err-judge_plan
 returns-in_err-judge_plan c =

@@ -9,7 +9,7 @@ use Rattle.judge.proofs.ending.lists_of.Goals as goal
 
 pub loop-z-init : goal.loop-z-init
 loop-z-init c =
-    (sym c.requires.1, refl, λ m k rows d e. record { lists = λ y l b. absurd (omega arith); few = λ y h. rw (get_d_uniform 64 y 0) (omega arith) })
+    (sym c.room-room.ensures.1, refl, λ m k rows d e. record { lists = λ y l b. absurd (omega arith); few = λ y h. rw (get_d_uniform 64 y 0) (omega arith) })
 
 pub loop-z-preserved : goal.loop-z-preserved
 loop-z-preserved c =

@@ -21,7 +21,7 @@ lists_of-lists-requires c =
     let a = c.args in
     let t = a.map.now in
     let b = c.requires.placement in
-    (λ z h. has_zone b.map t.vertices a.k t.kind t.first t.size t.listed t.zone t.place a.rows.now b.given z (rw b.count h), c.requires.listed)
+    λ z h. has_zone b.map t.vertices a.k t.kind t.first t.size t.listed t.zone t.place a.rows.now b.given z (rw b.count h)
 
 pub walk-requires-clause-ready : goal.walk-requires-clause-ready
 walk-requires-clause-ready c =

@@ -5,7 +5,6 @@ use lib.ListN.{length}
 use borrow.Author.Rules.{rules}
 use Rattle.std.proofs.lemmas.Result.{err_from_is_err_and}
 use Rattle.spec.specs.State as meaning
-use Rattle.motion.specs.World.{world}
 use Rattle.resolve.specs.Whole.{cleared_start, cleared_over, cleared_goals, cleared_end}
 use Rattle.resolve.proofs.plan.resolve_plan.Goals as goal
 
@@ -27,7 +26,7 @@ returns-in_err-made c =
     let l : a.k ≤ length a.starts = omega (arith, x.on.given.few) in
     let y = c.in_err-made.ensures (cleared_start a.file.now a.map.now.zones a.k a.map.now.kind a.map.now.first a.map.now.size a.map.now.listed a.map.now.zone a.map.now.place a.starts a.goals x c.payload_word-count.result _ a.out.now c.payload_word-count.ensures.0 l c.standing-state.ensures) in
     let p = err_from_is_err_and c.from_residual.result c.from_residual.ensures.1 in
-    rw p.1 (cleared_over a.file.now a.map.now.zones a.k a.map.now.kind a.map.now.first a.map.now.size a.map.now.listed a.map.now.zone a.map.now.place a.starts a.goals x c.payload_word-count.result _ a.out.now c.payload_word-count.ensures.0 l c.standing-state.ensures p.0 (world c.walk.new.state y.0 c.walk.new.out) y.1)
+    rw (p.1, p.2) (cleared_over a.file.now a.map.now.zones a.k a.map.now.kind a.map.now.first a.map.now.size a.map.now.listed a.map.now.zone a.map.now.place a.starts a.goals x c.payload_word-count.result _ a.out.now c.payload_word-count.ensures.0 l c.standing-state.ensures _ c.walk.new.state c.walk.new.out y)
 
 pub end_zones-requires : goal.end_zones-requires
 unfolding cleared_start

@@ -17,7 +17,7 @@ returns-then-over c =
     λ x.
     let a = c.args in
     let l = c.loop-i in
-    (l.made, walk_over x.map x.given.accepted x.k x.given.few (take x.len (payload a.file.now)) a.count (world a.state.now 0 a.out.now) l.i l.o (world l.state l.made l.out) (l.invariant.0 x) (search rules))
+    walk_over x.map x.given.accepted x.k x.given.few (take x.len (payload a.file.now)) a.count (world a.state.now 0 a.out.now) l.i l.o (world l.state l.made l.out) (l.invariant.0 x) (search rules)
 
 pub list_length_at-e-requires : goal.list_length_at-e-requires
 list_length_at-e-requires c =
