@@ -3,6 +3,7 @@ use Rattle.stepping.specs.Steps.{next_room, next_to, next_is, next_step, next_ma
 use Rattle.walking.specs.Walk.{walk_start, walk_end, walk_over}
 use Rattle.motion.specs.World.{world}
 use Rattle.wire.specs.Payload.{payload, held_length}
+use Prim.Native.Nat.{◌<◌}
 use lib.ListN.{take}
 use native.Mathlib.Omega.{arith}
 use Rattle.resolve.proofs.walk.walk.Goals as goal
@@ -25,7 +26,7 @@ list_length_at-e-requires c =
     let x = c.requires in
     let l = c.loop-i in
     let g = l.invariant.0 x in
-    let h = c.loop-i-test.true in
+    let h : l.i < a.count = omega (arith, c.loop-i-test.true) in
     let f = l.invariant.1 (next_room a.file.now a.count a.map.now.kind a.map.now.first a.map.now.size a.map.now.listed a.map.now.zone a.map.now.place (world a.state.now 0 a.out.now) x l.i l.o (world l.state l.made l.out) g h) in
     let y = next_to a.file.now a.count a.map.now.kind a.map.now.first a.map.now.size a.map.now.listed a.map.now.zone a.map.now.place (world a.state.now 0 a.out.now) x l.i l.o (world l.state l.made l.out) g h l.four f in
     (y.below, y.here)
@@ -36,7 +37,7 @@ overflow_add-next c =
     let x = c.requires in
     let l = c.loop-i in
     let g = l.invariant.0 x in
-    let h = c.loop-i-test.true in
+    let h : l.i < a.count = omega (arith, c.loop-i-test.true) in
     let f = l.invariant.1 (next_room a.file.now a.count a.map.now.kind a.map.now.first a.map.now.size a.map.now.listed a.map.now.zone a.map.now.place (world a.state.now 0 a.out.now) x l.i l.o (world l.state l.made l.out) g h) in
     let e = c.list_length_at-e.result in
     let q = c.list_length_at-e.ensures in
@@ -48,7 +49,7 @@ overflow_add-next-in-loop-i c =
     let x = c.requires in
     let l = c.loop-i in
     let g = l.invariant.0 x in
-    let h = c.loop-i-test.true in
+    let h : l.i < a.count = omega (arith, c.loop-i-test.true) in
     let f = l.invariant.1 (next_room a.file.now a.count a.map.now.kind a.map.now.first a.map.now.size a.map.now.listed a.map.now.zone a.map.now.place (world a.state.now 0 a.out.now) x l.i l.o (world l.state l.made l.out) g h) in
     let e = c.list_length_at-e.result in
     let q = c.list_length_at-e.ensures in
@@ -60,7 +61,7 @@ payload_ahead-ahead-requires c =
     let x = c.requires in
     let l = c.loop-i in
     let g = l.invariant.0 x in
-    let h = c.loop-i-test.true in
+    let h : l.i < a.count = omega (arith, c.loop-i-test.true) in
     let f = l.invariant.1 (next_room a.file.now a.count a.map.now.kind a.map.now.first a.map.now.size a.map.now.listed a.map.now.zone a.map.now.place (world a.state.now 0 a.out.now) x l.i l.o (world l.state l.made l.out) g h) in
     let e = c.list_length_at-e.result in
     let q = c.list_length_at-e.ensures in
@@ -72,7 +73,7 @@ make_step-made-requires c =
     let x = c.requires in
     let l = c.loop-i in
     let g = l.invariant.0 x in
-    let h = c.loop-i-test.true in
+    let h : l.i < a.count = omega (arith, c.loop-i-test.true) in
     let f = l.invariant.1 (next_room a.file.now a.count a.map.now.kind a.map.now.first a.map.now.size a.map.now.listed a.map.now.zone a.map.now.place (world a.state.now 0 a.out.now) x l.i l.o (world l.state l.made l.out) g h) in
     let e = c.list_length_at-e.result in
     let q = c.list_length_at-e.ensures in
@@ -84,7 +85,7 @@ loop-i-preserved c =
     let x = c.requires in
     let l = c.loop-i in
     let g = l.invariant.0 x in
-    let h = c.loop-i-test.true in
+    let h : l.i < a.count = omega (arith, c.loop-i-test.true) in
     let f = l.invariant.1 (next_room a.file.now a.count a.map.now.kind a.map.now.first a.map.now.size a.map.now.listed a.map.now.zone a.map.now.place (world a.state.now 0 a.out.now) x l.i l.o (world l.state l.made l.out) g h) in
     let e = c.list_length_at-e.result in
     let q = c.list_length_at-e.ensures in (

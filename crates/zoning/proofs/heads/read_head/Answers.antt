@@ -1,3 +1,4 @@
+use native.Mathlib.Omega.{arith}
 use Rattle.std.proofs.Common.{◌+◌, sym, ap, ◌∙◌}
 use Rattle.std.proofs.lemmas.Result.{err_from_is_err_and}
 use Rattle.spec.specs.Outcome.{ok}
@@ -31,11 +32,11 @@ returns-then-size-least c =
     let a = c.args in
     let n = present (bytes a.payload.now) a.o c.byte.result c.byte.ensures _ _ c.in_ok-number.ensures.value 15 in
     let s = present (bytes a.payload.now) (a.o + 1) c.byte-2.result c.byte-2.ensures _ _ c.in_ok-size.ensures.value 15 in
-    head_small (bytes a.payload.now) a.o c.in-Ok.kind (n ∙ ap ok (sym c.in-Ok.ensures)) _ s (rw (sym c.least_size-least.ensures) c.if-size-least.true)
+    head_small (bytes a.payload.now) a.o c.in-Ok.kind (n ∙ ap ok (sym c.in-Ok.ensures)) _ s (omega (arith, c.least_size-least.ensures, c.if-size-least.true))
 
 pub returns : goal.returns
 returns c =
     let a = c.args in
     let n = present (bytes a.payload.now) a.o c.byte.result c.byte.ensures _ _ c.in_ok-number.ensures.value 15 in
     let s = present (bytes a.payload.now) (a.o + 1) c.byte-2.result c.byte-2.ensures _ _ c.in_ok-size.ensures.value 15 in
-    head_good (bytes a.payload.now) a.o c.in-Ok.kind (n ∙ ap ok (sym c.in-Ok.ensures)) _ s (rw (sym c.least_size-least.ensures) c.if-size-least.false)
+    head_good (bytes a.payload.now) a.o c.in-Ok.kind (n ∙ ap ok (sym c.in-Ok.ensures)) _ s (omega (arith, c.least_size-least.ensures, c.if-size-least.false))
