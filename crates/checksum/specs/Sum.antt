@@ -99,7 +99,7 @@ unfolding plain
 plain_none f n h = ap (λ (m : ℕ). plain (take m f)) h
 
 -- the front of a list of bytes is bytes
-bytes_take : (n : ℕ) (l : List ℕ) → Bytes l → Bytes (take n l)
+pub bytes_take : (n : ℕ) (l : List ℕ) → Bytes l → Bytes (take n l)
 bytes_take zero l h i = omega arith
 bytes_take (suc n) [] h i = h i
 bytes_take (suc n) (x ∷ l) h zero = h 0

@@ -2,5 +2,6 @@
 pub mod Kinds
 pub mod Rest
 pub mod Map
+pub mod Accepted
 pub mod Lists
 pub mod View

@@ -1,7 +1,7 @@
 -- Numbers as text, and text that is put into a buffer piece by piece.
-use Rattle.std.specs.Prelude.{ℕ, zero, suc, ◌+◌, ◌*◌, ◌/◌, ◌%◌, ◌≤◌, ◌<◌, ◌≡◌, refl, Bool, true, false, List, [], ◌∷◌, ◌++◌, length, get_or, set, take, ltb}
-use Rattle.std.proofs.Common.{sym, ap, ◌∙◌, length-append, take_all, take-suc, add-one, lt-ltb, le-ltb, ltb-true, ltb-false}
-use Rattle.std.proofs.lemmas.List.Edits.{sets}
+use Rattle.std.specs.Prelude.{ℕ, zero, suc, ◌+◌, ◌*◌, ◌/◌, ◌%◌, ◌≤◌, ◌<◌, ◌≡◌, refl, Bool, true, false, List, [], ◌∷◌, ◌++◌, length, get_or, set, drop, take, ltb}
+use Rattle.std.proofs.Common.{sym, ap, ◌∙◌, length-append, take_all, take_at, take-suc, add-one, lt-ltb, le-ltb, ltb-true, ltb-false}
+use Rattle.std.proofs.lemmas.List.Edits.{sets, sets-eq}
 use Rattle.std.proofs.Math.Seq.{length-sets}
 use native.Mathlib.Omega.{arith}
 
@@ -115,15 +115,33 @@ put_as e p = rw e at p
 pub put_length : {t u bs : List ℕ} {at r : ℕ} → Put t at bs u r → length u ≡ length t
 put_length {t} {u} {bs} {at} {r} p = ap length p.bytes ∙ length-sets t at bs
 
--- one byte more of a word that stands at the front
-pub put_more : (t u v word : List ℕ) (i : ℕ) → i < length word → Put t 0 (take i word) u i → v ≡ set u i (get_or word i 0) → Put t 0 (take (i + 1) word) v (i + 1)
-put_more t u v word i h p e =
+-- one byte more of a word
+pub put_more : (t u v word : List ℕ) (at i : ℕ) → i < length word → Put t at (take i word) u (at + i) → v ≡ set u (at + i) (get_or word i 0) → Put t at (take (i + 1) word) v (at + (i + 1))
+put_more t u v word at i h p e =
+    let n : at + (i + 1) ≡ at + i + 1 = omega arith in
     let w : take i word ++ get_or word i 0 ∷ [] ≡ take (i + 1) word = rw (add-one i) (sym (take-suc word i 0 h)) in
-    put_as w (put_then p (put_one e))
+    rw n (put_as w (put_then p (put_one e)))
 
--- all its bytes
-pub put_all : (t u word : List ℕ) (i : ℕ) → length word ≤ i → i ≤ length word → Put t 0 (take i word) u i → Put t 0 word u (length word)
-put_all t u word i h l p = let e : i ≡ length word = omega arith in rw e at (put_as (take_all i word h) p)
+-- all bytes of a word
+pub put_all : (t u word : List ℕ) (at i : ℕ) → length word ≤ i → Put t at (take i word) u (at + i) → Put t at word u (at + i)
+put_all t u word at i h p = put_as (take_all i word h) p
+
+-- another word for the next byte's place
+put_next : {t u bs : List ℕ} {at r s : ℕ} → r ≡ s → Put t at bs u r → Put t at bs u s
+put_next e p = record { bytes = p.bytes; next = sym e ∙ p.next }
+
+-- a word that stands at the front: one byte more, and all
+pub front_more : (t u v word : List ℕ) (i : ℕ) → i < length word → Put t 0 (take i word) u i → v ≡ set u i (get_or word i 0) → Put t 0 (take (i + 1) word) v (i + 1)
+front_more t u v word i h p e =
+    let z : i ≡ 0 + i = omega arith in
+    let n : 0 + (i + 1) ≡ i + 1 = omega arith in
+    put_next n (put_more t u v word 0 i h (put_next z p) (e ∙ ap (λ (k : ℕ). set u k (get_or word i 0)) z))
+
+pub front_all : (t u word : List ℕ) (i : ℕ) → length word ≤ i → i ≤ length word → Put t 0 (take i word) u i → Put t 0 word u (length word)
+front_all t u word i h l p =
+    let z : i ≡ 0 + i = omega arith in
+    let n : 0 + i ≡ length word = omega arith in
+    put_next n (put_all t u word 0 i h (put_next z p))
 
 -- a number of one digit
 pub put_low : (t u : List ℕ) (at n : ℕ) → n < 10 → u ≡ set t at (48 + n) → Put t at (decimal n) u (at + 1)
@@ -136,3 +154,9 @@ put_high t u v at r n h p e = put_as (sym (decimal_more n h)) (put_then p (put_o
 -- a number of 32 bits has at most ten digits
 pub put_ten : {t u : List ℕ} {at n r : ℕ} → Put t at (decimal n) u r → n < 4294967296 → r ≤ at + 10
 put_ten {t} {u} {at} {n} {r} p h = omega (arith, p.next, decimal_few 9 n (unfold power in omega arith))
+
+-- what a buffer that is long enough begins with then
+pub put_whole : {t u bs : List ℕ} {r : ℕ} → Put t 0 bs u r → r ≤ length t → take r u ≡ bs
+put_whole {t} {u} {bs} {r} p h =
+    let n : r ≡ length bs = omega (arith, p.next) in
+    ap (take r) (p.bytes ∙ sets-eq bs t 0 (omega arith)) ∙ take_at bs (drop (0 + length bs) t) r (sym n)

@@ -1,10 +1,11 @@
 -- A payload where it stands in a file: 504 bytes of each block, after the six of its head.
 use Rattle.std.specs.Prelude.{ℕ, zero, suc, ◌+◌, ◌-◌, ◌*◌, ◌/◌, ◌%◌, ◌≤◌, ◌<◌, ◌≡◌, refl, ◌⊎◌, Bool, true, false, List, [], ◌∷◌, ◌++◌, length, get_or, set, take, drop, ltb}
-use Rattle.std.proofs.Common.{ap, sym, ◌∙◌, inl, inr, ⊎_elim, length-append, length-drop, get_or-drop, get_or-take, get_or-append-add, get_or-set_same, get_or-set_other, length-take-le, ext_get_or, ltb-true, ltb-false, arith}
+use Rattle.std.proofs.Common.{ap, sym, ◌∙◌, inl, inr, ⊎_elim, length-append, length-drop, get_or-drop, get_or-take, get_or-append-add, get_or-set_same, get_or-set_other, length-take-le, ext_get_or, lit<, ltb-true, ltb-false, add-one, arith}
 use Rattle.std.proofs.Math.ListN.{get_or-append, get_or-eq_default}
 use Rattle.std.proofs.Math.Seq.{take-nil}
 use Rattle.std.proofs.Math.Decide.{ℕ_discrete}
 use Rattle.spec.specs.Wire.{word}
+use Rattle.spec.specs.Terms.{Bytes}
 use Rattle.wire.specs.declared.Three.{Three}
 use Rattle.wire.specs.declared.Four.{Four}
 
@@ -31,6 +32,11 @@ place_of off = off / 504 * 512 + 6 + off % 504
 -- the two-byte number at `off` of the payload
 abbrev pub word_at : List ℕ → ℕ → ℕ
 word_at f off = get_or f (place_of off) 0 * 256 + get_or f (place_of (off + 1)) 0
+
+-- past the file's end it is 0
+pub word_out : (f : List ℕ) (off : ℕ) → length f ≤ off → word_at f off ≡ 0
+word_out f off h =
+    rw (get_or-eq_default f 0 {n = place_of off} (omega arith), get_or-eq_default f 0 {n = place_of (off + 1)} (omega arith))
 
 -- the three bytes from `off` of the payload on
 pub record ThreeAt (f : List ℕ) (off : ℕ) (t : Three) : Type 0 where
@@ -98,6 +104,11 @@ parts_length f (suc k) h =
     let e : length (take 504 (drop (k * 512 + 6) f)) ≡ 504 = length-take-le 504 (drop (k * 512 + 6) f) (simp length-drop (omega arith)) in
     length-append (parts f k) (take 504 (drop (k * 512 + 6) f)) ∙ omega (arith, e, parts_length f k (omega arith))
 
+-- one part more
+pub parts_more : (f : List ℕ) (k : ℕ) → parts f (k + 1) ≡ parts f k ++ take 504 (drop (k * 512 + 6) f)
+unfolding parts
+parts_more f k = rw (add-one k)
+
 -- a byte of the parts, in the file
 pub parts_at : (f : List ℕ) (k off : ℕ) → k * 512 ≤ length f → off < k * 504 → get_or (parts f k) off 0 ≡ get_or f (place_of off) 0
 unfolding parts
@@ -154,3 +165,10 @@ module _ (f : List ℕ) (m : ℕ) (most : m ≤ length f / 512 * 504) where
   pub held_word : (off : ℕ) → off + 1 < m → word (take m (payload f)) off ≡ word_at f off
   unfolding word
   held_word off h = rw (held_byte off (omega arith), held_byte (off + 1) h)
+
+  -- they are bytes if the file's are
+  pub held_bytes : Bytes f → Bytes (take m (payload f))
+  held_bytes h i =
+      ⊎_elim (λ (q : i < m). rw (held_byte i q) (h (place_of i)))
+      (λ (q : m ≤ i). rw (get_or-eq_default (take m (payload f)) 0 {n = i} (omega (arith, held_length))) (lit< tt))
+      (lt_or_ge i m)
