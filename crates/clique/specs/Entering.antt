@@ -64,7 +64,7 @@ pub cells_named : (list : List ℕ) (j : ℕ) → length (set (map cell_of list)
 cells_named list j = length-set (map cell_of list) j 0 ∙ length-map list cell_of
 
 -- what a follow list names at a place
-named_at : (list : List ℕ) (j : ℕ) → j < length list → cell (named list) j ≡ suc (get_or list j 0)
+pub named_at : (list : List ℕ) (j : ℕ) → j < length list → cell (named list) j ≡ suc (get_or list j 0)
 unfolding named
 named_at list j h = get_d_map suc list j h
 

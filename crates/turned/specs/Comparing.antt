@@ -1,5 +1,5 @@
 -- Whether a goal arrangement is in a ring's configuration: the same order up to turning, or if full the same arrangement.
-use Rattle.std.specs.Prelude.{◌≡◌, refl, ◌≢◌, Bool, true, false, not, List, [], ◌∷◌, ◌++◌, map, take, MatchOption, Option, Some, None}
+use Rattle.std.specs.Prelude.{◌≡◌, ◌<◌, refl, ◌≢◌, Bool, true, false, not, List, [], ◌∷◌, ◌++◌, map, take, MatchOption, Option, Some, None}
 use Rattle.std.specs.List.{list_all, filter, find}
 use Rattle.std.proofs.Math.Path.{ap, ap₂, sym}
 use Rattle.std.proofs.Common.{◌∙◌, arith}
@@ -7,7 +7,7 @@ use Prim.Native.Nat.{ℕ, zero, suc}
 use Rattle.std.proofs.Math.Decide.{ℕ_discrete}
 use Rattle.std.proofs.Math.ListN.{length, drop}
 use Rattle.std.proofs.Math.Dec.{eqb}
-use borrow.Author.Tests.{eq-eqb, ne_eqb}
+use borrow.Author.Tests.{eq-eqb, ne_eqb, eqb-false}
 use mathlib.Core.Path.{subst}
 use Rattle.std.specs.Option.{option_map}
 use Rattle.numbering.specs.declared.Robot.{Robot}
@@ -154,3 +154,9 @@ end_full a g e = rw (e, ring_can_end)
 pub end_open : (a g : Arrangement) → full a ≡ false → turned (order a) (order g) ≡ ring_can_end a g
 unfolding ring_can_end
 end_open a g e = rw (e, ring_can_end)
+
+-- a ring that is not full has a place
+pub full_some : (a : Arrangement) → full a ≡ false → 0 < length a
+unfolding full order
+full_some [] e = absurd (let z : eqb 0 0 ≡ false = e in eqb-false 0 0 z refl)
+full_some (x ∷ a) e = omega arith

@@ -83,6 +83,10 @@ near_read f place off h =
     (λ (q : length f ≤ place). get_or-eq_default f 0 q ∙ sym (get_or-eq_default f 0 (omega (arith, h.1))))
     (lt_or_ge place (length f))
 
+-- where a payload byte stands in its block: behind the six bytes of the head
+pub place_rest : (off : ℕ) → place_of off % 512 ≡ 6 + off % 504
+place_rest off = omega arith
+
 -- three of them, one by one
 pub three_copied : (f : List ℕ) (off : ℕ) (l : List ℕ) → Copied f off l 3 → ThreeAt f off (record { first = get_or l 0 0; second = get_or l 1 0; third = get_or l 2 0 })
 three_copied f off l c =

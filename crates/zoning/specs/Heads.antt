@@ -113,6 +113,16 @@ count_most most p o n e =
     let a = passed _ _ _ _ _ b.2 in
     rw (← ok_injective a.1) (leb→le _ _ (and_right _ _ a.0))
 
+-- the counts are within their ranges
+pub counts_range : (p : List ℕ) (c : layout.Counts) → counts_of p ≡ ok c → (c.vertices ≤ 128) × (c.zones ≤ 64)
+unfolding counts_of
+counts_range p c e =
+    let n = bound _ _ _ e in
+    let a = passed _ _ _ _ _ n.2 in
+    let z = bound _ _ _ a.1 in
+    let b = passed _ _ _ _ _ z.2 in
+    rw (← ok_injective b.1) (leb→le _ _ (and_right _ _ a.0), leb→le _ _ (and_right _ _ b.0))
+
 module _ (p : List ℕ) where
   pub counts_vertices : (r q : ℕ) → count_at 128 p 0 ≡ refuse r q → counts_of p ≡ refuse r q
   counts_vertices r q e = counts_are p ∙ refused (count_at 128 p 0) r q _ e
