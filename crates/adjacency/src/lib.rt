@@ -19,7 +19,7 @@ pub fn joined(rows: &[[u64; 2]; 128], u: numbering::Vertex, v: numbering::Vertex
 }
 
 // The edges of a map: bit b of row a says that vertices a and b are joined.
-#[derive(Drop)]
+#[derive(Clone, Copy)]
 pub struct Rows {
     words: [[u64; 2]; 128],
 }
@@ -28,9 +28,18 @@ impl Model for Rows {
     ghost Value = { List (List ℕ) };
 
     ghost view = { λ r. r.words };
+
+    ghost inverse = { λ words. record { words = words } };
 }
 
 impl Rows {
+    // The rows of any words.
+    pub fn of(words: [[u64; 2]; 128]) -> Rows
+        ensures { result ≡ words }
+    {
+        Rows { words }
+    }
+
     // No edge.
     pub fn blank() -> Rows
         ensures { result ≡ blank }

@@ -36,8 +36,8 @@ fn lowest_off(cells: &[u8], goal: &[u8]) -> u8
 // "while a cart is off target, if some such cart's target is empty, the one whose target is listed earliest moves there;
 // otherwise the lowest-numbered such cart moves to the earliest listed empty point". A target opens only where a robot left, so the next one is looked for from there,
 // and past the place that was taken. The robots' places are kept in a table.
-pub fn go_toward(
-    state: &mut State,
+pub fn go_toward<const N: usize, const M: usize>(
+    state: &mut State<N, M>,
     count: usize,
     zone: &[u8],
     cells: &mut [u8],

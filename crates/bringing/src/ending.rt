@@ -20,12 +20,12 @@ use numbering::Zone;
 
 // The moves that bring zone z to its goals, which can be reached.
 // That the map has the zone stays a clause: it is of the two together, and a zone's number is read of no map.
-fn end_zone(
-    state: &mut State,
+fn end_zone<const M: usize, const P: usize, const Q: usize, const L: usize>(
+    state: &mut State<128, M>,
     count: usize,
-    map: &MapTables,
+    map: &MapTables<L>,
     z: Zone,
-    goals: &State,
+    goals: &State<P, Q>,
     out: &mut [u8],
 ) -> usize
     requires has_zone { ZoneOn map.now z.0 }
@@ -35,17 +35,17 @@ fn end_zone(
 {
     let kind = map.kind_of(z);
     let zone = ListedVertices {
-        vertices: map.vertices_of(z).vertices,
+        vertices: map.listed_of(z),
     };
     zones::bring_to_goals(kind, state, count, zone, goals, out)
 }
 
 // The moves that bring every zone to its goals, which can be reached.
-pub fn end_zones(
-    state: &mut State,
+pub fn end_zones<const M: usize, const P: usize, const Q: usize, const L: usize>(
+    state: &mut State<128, M>,
     count: usize,
-    map: &MapTables,
-    goals: &State,
+    map: &MapTables<L>,
+    goals: &State<P, Q>,
     out: &mut [u8],
 ) -> usize
     requires { BringingOn map.now state.old goals.now }

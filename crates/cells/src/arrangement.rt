@@ -47,7 +47,7 @@ pub fn cell_of(r: Robot) -> u8
 }
 
 // The arrangement of a zone, as far as the cells go.
-pub fn cells_of(state: &State, zone: &[u8], cells: &mut [u8])
+pub fn cells_of<const N: usize, const M: usize>(state: &State<N, M>, zone: &[u8], cells: &mut [u8])
     ensures { cells.new ≡ overlaid (arrangement_of state.now zone.now) cells.old }
 {
     for k in 0..zone.len().min(cells.len()) {
@@ -56,8 +56,8 @@ pub fn cells_of(state: &State, zone: &[u8], cells: &mut [u8])
 }
 
 // The robot of cell x goes from place i of a zone to place j, in the state and in the lent arrangement.
-pub fn go(
-    state: &mut State,
+pub fn go<const N: usize, const M: usize>(
+    state: &mut State<N, M>,
     count: usize,
     zone: &[u8],
     cells: &mut [u8],

@@ -35,10 +35,10 @@ fn sum_ok(block: &[u8; 512]) -> bool
 }
 
 // Are bytes 0-3 the kind, zero, and the block's number i?
-fn head_ok(block: &[u8; 512], i: usize, kind: FileKind) -> bool
-    ensures { result ≡ head_ok (number_of_file kind) i block.now }
+fn head_ok(block: &[u8; 512], i: usize, kind: u8) -> bool
+    ensures { result ≡ head_ok kind i block.now }
 {
-    block[0] == kind.number() && block[1] == 0 && word_at(block, 2) == i
+    block[0] == kind && block[1] == 0 && word_at(block, 2) == i
 }
 
 // May a block hold n bytes of payload?
@@ -73,9 +73,17 @@ pub fn check_file(file: &[u8], kind: FileKind) -> Result<usize, FileFault>
     ensures by_index { (base : ℕ) → checked_of base file.now result ≡ payload_of base (number_of_file kind) (blocks_of_file kind) file.now }
     ensures held { Held (blocks_of_file kind) file.now result }
 {
+    check_kind(file, kind.number(), usize::from(kind.most_blocks()))
+}
+
+// The same for any number of a kind, and for at most `limit` blocks.
+pub fn check_kind(file: &[u8], kind: u8, limit: usize) -> Result<usize, FileFault>
+    ensures by_index { (base : ℕ) → checked_of base file.now result ≡ payload_of base kind limit file.now }
+    ensures held { Held limit file.now result }
+{
     let (blocks, rest) = file.as_chunks::<512>();
     let count = blocks.len();
-    if !rest.is_empty() || count < 1 || count > usize::from(kind.most_blocks()) {
+    if !rest.is_empty() || count < 1 || count > limit {
         return Err(FileFault::Length);
     }
     let mut len = 0;

@@ -12,7 +12,11 @@ use motion::State;
 use numbering::ZoneVertices;
 
 // Is the goal arrangement in the configuration: in a full clique the arrangement itself, in any other one of the same robots?
-pub fn can_end(state: &State, zone: ZoneVertices, goals: &State) -> bool
+pub fn can_end<const N: usize, const M: usize, const P: usize, const Q: usize>(
+    state: &State<N, M>,
+    zone: ZoneVertices,
+    goals: &State<P, Q>,
+) -> bool
     ensures { result ≡ clique_can_end (arrangement_of state.now zone.entry.vertices.now) (arrangement_of goals.now zone.entry.vertices.now) }
 {
     let zone = zone.vertices;
@@ -31,11 +35,11 @@ pub fn can_end(state: &State, zone: ZoneVertices, goals: &State) -> bool
 }
 
 // "Clique to a given arrangement", the goals', where no robot stands twice.
-pub fn bring_to_goals(
-    state: &mut State,
+pub fn bring_to_goals<const N: usize, const M: usize, const P: usize, const Q: usize>(
+    state: &mut State<N, M>,
     count: usize,
     zone: ZoneVertices,
-    goals: &State,
+    goals: &State<P, Q>,
     out: &mut [u8],
 ) -> usize
     // Kept a clause: it is of the state and the zone together, and a view of both can't be held while the state is changed.

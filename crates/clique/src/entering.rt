@@ -43,7 +43,12 @@ fn goal_cells(list: &[u8], j: usize, goal: &mut [u8])
 }
 
 // Does a follow list name the robots inside beside the one at place j?
-fn names_inside(state: &State, zone: ZoneVertices, j: usize, list: FollowList) -> bool
+fn names_inside<const N: usize, const M: usize>(
+    state: &State<N, M>,
+    zone: ZoneVertices,
+    j: usize,
+    list: FollowList,
+) -> bool
     ensures { result ≡ same_robots (arrangement_of state.now zone.entry.vertices.now) (set (named list.entry.names.now) j 0) }
 {
     let zone = zone.vertices;
@@ -62,8 +67,8 @@ fn names_inside(state: &State, zone: ZoneVertices, j: usize, list: FollowList) -
 }
 
 // Can robot r enter at place j: "in a clique behind is 255, and if filled, the follow list names the new arrangement, the entering cart at to".
-pub fn can_enter(
-    state: &State,
+pub fn can_enter<const N: usize, const M: usize>(
+    state: &State<N, M>,
     zone: ZoneVertices,
     r: Robot,
     j: usize,
@@ -84,8 +89,8 @@ pub fn can_enter(
 }
 
 // The robots inside go to the follow list's arrangement.
-fn fill(
-    state: &mut State,
+fn fill<const N: usize, const M: usize>(
+    state: &mut State<N, M>,
     count: usize,
     zone: ZoneVertices,
     j: usize,
@@ -115,8 +120,8 @@ fn fill(
 
 // "Entering without filling: a cart on to goes to the earliest listed empty point. Filling: the carts inside go to the follow list's arrangement".
 // There is a follow list exactly where the clique is filled.
-pub fn enter(
-    state: &mut State,
+pub fn enter<const N: usize, const M: usize>(
+    state: &mut State<N, M>,
     count: usize,
     zone: ZoneVertices,
     j: usize,

@@ -35,11 +35,11 @@ fn near_place(kind: ZoneKind, m: usize, j: usize) -> usize
 // The moves that bring robot r, which can leave there, to place j, which is vertex u: one where it stands beside that and nobody on it.
 // A place and its zone stay two values, here and below: both are looked up in the map apart, and `zones` takes them apart.
 // That the arrangement is proper stays a clause: it is of the state and the zone together, and the state is changed here.
-fn leave_in(
-    state: &mut State,
+fn leave_in<const M: usize>(
+    state: &mut State<128, M>,
     count: usize,
     kind: ZoneKind,
-    zone: ListedVertices,
+    zone: ListedVertices<128>,
     r: Robot,
     j: usize,
     u: Vertex,
@@ -65,10 +65,10 @@ fn leave_in(
 }
 
 // The moves that bring robot r, which can leave there, to vertex u: none where it stands there already.
-pub fn leave_at(
-    state: &mut State,
+pub fn leave_at<const M: usize, const L: usize>(
+    state: &mut State<128, M>,
     count: usize,
-    map: &MapTables,
+    map: &MapTables<L>,
     r: Robot,
     u: Vertex,
     out: &mut [u8],
@@ -85,7 +85,7 @@ pub fn leave_at(
     }
     let z = map.zone_of(u);
     let zone = ListedVertices {
-        vertices: map.vertices_of(z).vertices,
+        vertices: map.listed_of(z),
     };
     leave_in(
         state,
@@ -100,7 +100,14 @@ pub fn leave_at(
 }
 
 // Is place j of the zone, which is vertex v, empty and the named robot behind it?
-fn is_ready(kind: ZoneKind, state: &State, zone: &[u8], j: usize, behind: u8, v: Vertex) -> bool
+fn is_ready<const N: usize, const M: usize>(
+    kind: ZoneKind,
+    state: &State<N, M>,
+    zone: &[u8],
+    j: usize,
+    behind: u8,
+    v: Vertex,
+) -> bool
     requires { j < length zone.now }
     ensures { result ≡ true → (255 ≡ robot_on state.now v.0) × (behind_of (number_of kind) (arrangement_of state.now zone.now) j ≡ behind) }
 {
@@ -114,11 +121,11 @@ fn is_ready(kind: ZoneKind, state: &State, zone: &[u8], j: usize, behind: u8, v:
 }
 
 // The moves that make room at place j, which is vertex v, where the step fills no clique: none where the zone is ready.
-fn enter_room(
-    state: &mut State,
+fn enter_room<const M: usize>(
+    state: &mut State<128, M>,
     count: usize,
     kind: ZoneKind,
-    zone: ListedVertices,
+    zone: ListedVertices<128>,
     j: usize,
     behind: u8,
     v: Vertex,
@@ -145,13 +152,13 @@ fn enter_room(
 }
 
 // The moves that make room at place j, with the follow list that is copied into the lent bytes.
-fn enter_in(
-    state: &mut State,
+fn enter_in<const M: usize>(
+    state: &mut State<128, M>,
     count: usize,
     file: &[u8],
     from: usize,
     kind: ZoneKind,
-    zone: ListedVertices,
+    zone: ListedVertices<128>,
     j: usize,
     behind: u8,
     list: &mut [u8],
@@ -168,13 +175,13 @@ fn enter_in(
 }
 
 // The moves that make room at vertex v, where the follow list has n bytes.
-pub fn enter_at(
-    state: &mut State,
+pub fn enter_at<const M: usize, const L: usize>(
+    state: &mut State<128, M>,
     count: usize,
     file: &[u8],
     from: usize,
     n: usize,
-    map: &MapTables,
+    map: &MapTables<L>,
     v: Vertex,
     behind: u8,
     out: &mut [u8],
@@ -189,7 +196,7 @@ pub fn enter_at(
     let z = map.zone_of(v);
     let kind = map.kind_of(z);
     let zone = ListedVertices {
-        vertices: map.vertices_of(z).vertices,
+        vertices: map.listed_of(z),
     };
     let j = map.place_of(v);
     if n == 0 {

@@ -106,7 +106,7 @@ step_is m s r u v kind j behind vs filled ez ej eb ef =
     ∙ ap (λ (i : ℕ). step_from s vs i r u v (behind_of kind (arrangement_of s vs) i) (eqb kind 3 and last_free (arrangement_of s vs))) ej
     ∙ sym (ap (step_into s r u v) ez) ∙ step_into_lem m s r u v
 
-module _ (map : MapTables) (m : Map) (h : MapHeld map m) (g : Accepted m) (u v : ℕ) (hv : v < m.size) where
+module _ (map : MapTables 128) (m : Map) (h : MapHeld map m) (g : Accepted m) (u v : ℕ) (hv : v < m.size) where
   at : Stands m v (zone_of m v) (index_of v (zone_at m (zone_of m v)).vertices)
   at = g.placed v hv
 
@@ -149,7 +149,7 @@ module _ (map : MapTables) (m : Map) (h : MapHeld map m) (g : Accepted m) (u v :
           }
 
 -- a zone has at most 128 vertices
-pub part_short : (map : MapTables) (y : ℕ) (vs : List ℕ) → get_or map.first y 0 + get_or map.size y 0 ≤ 128 → vs ≡ part_of map y → length vs ≤ 128
+pub part_short : (map : MapTables 128) (y : ℕ) (vs : List ℕ) → get_or map.first y 0 + get_or map.size y 0 ≤ 128 → vs ≡ part_of map y → length vs ≤ 128
 part_short map y vs h e = omega (arith, h, ap length e, length-take (get_or map.size y 0) (drop (get_or map.first y 0) map.listed))
 
 step_most_lem : (s : State) (vs : List ℕ) (j r u v behind : ℕ) (filled : Bool) → length (step_from s vs j r u v behind filled) ≤ 4 + length vs

@@ -22,7 +22,13 @@ pub struct Drawn {
 }
 
 // Lays the step of a move that is to be made, if it is one between zones.
-fn draw_move(d: Drawn, state: &State, map: &MapTables, x: Three, out: &mut [u8]) -> Drawn
+fn draw_move(
+    d: Drawn,
+    state: &State<128, 64>,
+    map: &MapTables<128>,
+    x: Three,
+    out: &mut [u8],
+) -> Drawn
     requires { (d.steps < 65536) × (d.bytes < 4294967040) }
     ensures move_drawn { (m : Map) → MapHeld map.now m → x.third < m.size → Accepted m → MoveDrawn m state.now (three_move x) d out.old result out.new }
     ensures steps_bound { (result.steps ≤ d.steps + 1) × (result.bytes ≤ d.bytes + 132) }
@@ -57,8 +63,8 @@ fn draw_move(d: Drawn, state: &State, map: &MapTables, x: Three, out: &mut [u8])
 pub fn draw_moves(
     file: &[u8],
     count: u16,
-    map: &MapTables,
-    mut state: State,
+    map: &MapTables<128>,
+    mut state: State<128, 64>,
     out: &mut [u8],
 ) -> Drawn
     ensures { (m : Map) → MapHeld map.now m → Accepted m → EndsOn m (file_bytes file.now) count → AllDrawn m (file_bytes file.now) count state out.old result out.new }

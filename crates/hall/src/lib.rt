@@ -3,12 +3,14 @@
 //     trips   robots sent from place to place
 #![tactic(auto)]
 
-ghost use Rattle.std.specs.Prelude.{◌≡◌, ℕ, ◌≤◌, ◌<◌, length};
+ghost use Rattle.std.specs.Prelude.{◌≡◌, ℕ, ◌≤◌, ◌<◌, length, min};
 ghost use Rattle.std.specs.Fn.{FnReturnsAt};
 ghost use Rattle.spec.specs.Arrangement.{order};
+ghost use Rattle.spec.specs.Outcome.{index_of};
 ghost use Rattle.spec.specs.Hall.{hall_leave, hall_enter, hall_end};
 ghost use Rattle.spec.specs.State.{across, arrangement_of};
 ghost use Rattle.motion.specs.World.{world, made_all};
+ghost use Rattle.lineup.specs.Goals.{lower_of};
 ghost use Rattle.hall.specs.Ends.{way_at};
 
 mod trips;
@@ -21,8 +23,8 @@ use trips::settle;
 
 // The robots of a hall make way at place j: `below` says of their line how many go below it, and m go onto it.
 #[tactic(auto, using(motion::specs::Across::arrangement_length, crate::specs::Ends::length_first))]
-fn make_way<F: Fn(&[u8]) -> usize>(
-    state: &mut State,
+fn make_way<F: Fn(&[u8]) -> usize, const N: usize, const M: usize>(
+    state: &mut State<N, M>,
     count: usize,
     zone: ZoneVertices,
     below: F,
@@ -51,8 +53,8 @@ fn make_way<F: Fn(&[u8]) -> usize>(
 }
 
 // "Hall or stack, leaving at j": robot r goes to place j, those below and above it out of its way.
-pub fn leave(
-    state: &mut State,
+pub fn leave<const N: usize, const M: usize>(
+    state: &mut State<N, M>,
     count: usize,
     zone: ZoneVertices,
     r: Robot,
@@ -61,12 +63,22 @@ pub fn leave(
 ) -> usize
     ensures { world state.new result out.new ≡ made_all (world state.old count out.old) (across zone.entry.vertices.now (hall_leave (arrangement_of state.old zone.entry.vertices.now) r.0 j.index)) }
 {
-    make_way(state, count, zone, |line| index_of(line, r.0), 1, j, out)
+    make_way(
+        state,
+        count,
+        zone,
+        |line|
+            ensures { result ≡ index_of r.0 line.now }
+        { index_of(line, r.0) },
+        1,
+        j,
+        out,
+    )
 }
 
 // "Entering at j": the named robot and those lower go below place j, the rest above it.
-pub fn enter(
-    state: &mut State,
+pub fn enter<const N: usize, const M: usize>(
+    state: &mut State<N, M>,
     count: usize,
     zone: ZoneVertices,
     j: Place,
@@ -79,7 +91,9 @@ pub fn enter(
         state,
         count,
         zone,
-        |line| lower_than(line, behind),
+        |line|
+            ensures { result ≡ min (lower_of behind line.now) (length line.now) }
+        { lower_than(line, behind) },
         0,
         j,
         out,
@@ -88,11 +102,11 @@ pub fn enter(
 
 // The robots go to their goals' places.
 #[tactic(auto, using(motion::specs::Across::arrangement_length, crate::specs::Ends::length_first))]
-pub fn end(
-    state: &mut State,
+pub fn end<const N: usize, const M: usize, const P: usize, const Q: usize>(
+    state: &mut State<N, M>,
     count: usize,
     zone: ZoneVertices,
-    goals: &State,
+    goals: &State<P, Q>,
     out: &mut [u8],
 ) -> usize
     ensures { world state.new result out.new ≡ made_all (world state.old count out.old) (across zone.entry.vertices.now (hall_end (arrangement_of state.old zone.entry.vertices.now) (arrangement_of goals.now zone.entry.vertices.now))) }

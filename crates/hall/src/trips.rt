@@ -9,8 +9,8 @@ use motion::State;
 use numbering::Robot;
 
 // Robot r goes from a place, place by place, down or up to another.
-fn send(
-    state: &mut State,
+fn send<const N: usize, const M: usize>(
+    state: &mut State<N, M>,
     count: usize,
     zone: &[u8],
     r: Robot,
@@ -36,8 +36,8 @@ fn send(
 
 // "Moving to given hall places": each robot of the line from its place to its goal, "carts going lower, lowest first, each all its way, then carts
 // going higher, highest first".
-pub fn settle(
-    state: &mut State,
+pub fn settle<const N: usize, const M: usize>(
+    state: &mut State<N, M>,
     count: usize,
     zone: &[u8],
     line: &[u8],

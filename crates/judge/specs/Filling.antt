@@ -1,5 +1,5 @@
 -- The lists as a state has them: each zone's is the order of its arrangement.
-use Rattle.std.specs.Prelude.{◌≡◌, Bool, List, ℕ, ◌+◌, ◌-◌, ◌≤◌, ◌<◌, length, get_or, set, take, drop, eqb}
+use Rattle.std.specs.Prelude.{◌≡◌, Bool, List, ℕ, ◌+◌, ◌≤◌, ◌<◌, length, get_or, set, take, drop, eqb}
 use Rattle.std.proofs.Common.{sym, ap, ◌∙◌, length-drop, length-take-le}
 use Rattle.std.proofs.Math.Bool.{true, false}
 use native.Mathlib.Omega.{arith}

@@ -17,7 +17,7 @@ use wire::FiledPayload;
 // Judges the plan of a payload.
 pub fn judge_plan(
     p: FiledPayload,
-    map: &MapTables,
+    map: &MapTables<128>,
     rows: &[[u64; 2]; 128],
     starts: [u8; 64],
     goals: [u8; 64],

@@ -6,3 +6,4 @@ pub mod Places
 pub mod Shape
 pub mod Closed
 pub mod Kind
+pub mod Listed

@@ -10,6 +10,7 @@ ghost use Rattle.kinds.specs.Marks.{mark_word, meet_test, apart_test};
 ghost use Rattle.kinds.specs.Places.{Between};
 ghost use Rattle.kinds.specs.Tests.{row_test, shape_test, test_of};
 ghost use Rattle.kinds.specs.Links.{line_number};
+ghost use Rattle.kinds.specs.Listed.{kind_test};
 
 use adjacency::{Rows, joined};
 use numbering::{Vertex, Zone, ZoneKind};
@@ -175,4 +176,35 @@ pub fn of_kind(rows: &Rows, zone: &ListedZone) -> bool
         ZoneKind::Clique => clique_ok(rows, vertices),
         ZoneKind::Ring => line_ok(rows, vertices, true),
     }
+}
+
+// Is zone z, whose `size` vertices stand in `listed` from `first` on, of the kind with this number? A number that no kind has is refused,
+// and so is a part that goes past the listing.
+pub fn part_of_kind(
+    rows: &Rows,
+    listed: &[u8; 128],
+    zone: &[u8; 128],
+    z: Zone,
+    kind: u8,
+    first: usize,
+    size: usize,
+) -> bool
+    ensures { result ≡ kind_test rows.now listed.now zone.now z.0 kind first size }
+{
+    let Ok(kind) = ZoneKind::try_from(kind) else {
+        return false;
+    };
+    let Some(rest) = listed.get(first..) else {
+        return false;
+    };
+    let Some(vertices) = rest.get(..size) else {
+        return false;
+    };
+    let part = ListedZone {
+        number: z,
+        kind,
+        vertices,
+        zone_of: zone,
+    };
+    of_kind(rows, &part)
 }

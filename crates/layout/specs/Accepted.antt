@@ -1,5 +1,5 @@
 -- What callers have of a map that was read: its rows, its tables and its zones are those of the definition's map.
-use Rattle.std.specs.Prelude.{ℕ, ◌+◌, ◌≤◌, ◌<◌, ◌≡◌, Result, Ok, List, length, get_or, take, drop}
+use Rattle.std.specs.Prelude.{ℕ, ◌+◌, ◌≤◌, ◌<◌, ◌≡◌, Result, Ok, List, length, get_or, drop}
 use Rattle.std.proofs.Common.{ap, sym, ◌∙◌, length-take-le, length-drop, get_or-take, get_or-drop, arith}
 use Rattle.spec.specs.Outcome.{Outcome, ok, ◌>>=◌, index_of}
 use Rattle.spec.specs.Wire.{payload_of}
@@ -16,11 +16,11 @@ abbrev pub map_in : List ℕ → Outcome Map
 map_in file = payload_of 10 1 9 file >>= map_of
 
 -- the rows say which vertices the map joins
-pub rows_joined : (outcome : Outcome Map) (r : Result MapTables MapFault) (rows : List (List ℕ)) → MapIs outcome r rows → (u v : ℕ) → bit_at rows u v ≡ joined (map_or outcome) u v
+pub rows_joined : (outcome : Outcome Map) (r : Result (MapTables 128) MapFault) (rows : List (List ℕ)) → MapIs outcome r rows → (u v : ℕ) → bit_at rows u v ≡ joined (map_or outcome) u v
 unfolding joined
 rows_joined outcome r rows a u v = shows_joined rows (map_or outcome).edges a.shown u v
 
-module _ (outcome : Outcome Map) (t : MapTables) (rows : List (List ℕ)) (a : MapIs outcome (Ok t) rows) where
+module _ (outcome : Outcome Map) (t : MapTables 128) (rows : List (List ℕ)) (a : MapIs outcome (Ok t) rows) where
   -- the zone table gives the zone of each vertex, the place table its place there
   pub zone_entry : (v : ℕ) → get_or t.zone v 255 ≡ zone_of (map_or outcome) v
   zone_entry v = a.tables.zone_of_lem v
@@ -47,7 +47,7 @@ module _ (outcome : Outcome Map) (t : MapTables) (rows : List (List ℕ)) (a : M
         ∙ sym (ap (λ q. get_or q.vertices i 0) (a.tables.zone_at_lem z low))
 
 -- a file's map that was read is accepted
-pub file_accepted : (file : List ℕ) (t : MapTables) (rows : List (List ℕ)) → MapIs (map_in file) (Ok t) rows
+pub file_accepted : (file : List ℕ) (t : MapTables 128) (rows : List (List ℕ)) → MapIs (map_in file) (Ok t) rows
     → (map_in file ≡ ok (map_or (map_in file))) × theory.Accepted (map_or (map_in file))
 file_accepted file t rows a =
     let p = bound (payload_of 10 1 9 file) map_of (map_or (map_in file)) a.answer in

@@ -24,7 +24,7 @@ map_or (ok m) = m
 map_or (refuse number place) = no_map
 
 -- what a map that was read holds of the definition's map
-pub record MapHeld (r : MapTables) (m : Map) : Type 0 where
+pub record MapHeld (r : MapTables 128) (m : Map) : Type 0 where
   pub size : r.vertices ≡ m.size
   pub small : r.vertices ≤ 128
   pub count : r.zones ≡ length m.zones
@@ -44,14 +44,14 @@ pub record MapHeld (r : MapTables) (m : Map) : Type 0 where
   pub long_place : length r.place ≡ 128
 
 -- what is read of a payload, and the rows where it is a map
-pub record LayoutIs (outcome : Outcome Map) (r : Result MapTables MapFault) (rows : List (List ℕ)) : Type 0 where
+pub record LayoutIs (outcome : Outcome Map) (r : Result (MapTables 128) MapFault) (rows : List (List ℕ)) : Type 0 where
   pub answer : outcome ≡ answered (λ _. map_or outcome) r
   pub tables : IfOk r (λ t. MapHeld t (map_or outcome))
   pub entered : OnOk r (rows ≡ rows_of (map_or outcome).edges)
   pub shown : OnOk r (Shows rows (map_or outcome).edges)
 
 -- what is read of a file: the map that the definition gives, or its refusal and the rows of the map of no vertices
-pub record MapIs (outcome : Outcome Map) (r : Result MapTables MapFault) (rows : List (List ℕ)) : Type 0 where
+pub record MapIs (outcome : Outcome Map) (r : Result (MapTables 128) MapFault) (rows : List (List ℕ)) : Type 0 where
   pub answer : outcome ≡ answered (λ _. map_or outcome) r
   pub tables : IfOk r (λ t. MapHeld t (map_or outcome))
   pub entered : rows ≡ rows_of (map_or outcome).edges
@@ -63,7 +63,7 @@ pub record MapIs (outcome : Outcome Map) (r : Result MapTables MapFault) (rows :
 pub layout_refused : (outcome : Outcome Map) (f : MapFault) (rows : List (List ℕ)) → outcome ≡ refuse (number_of f) (fault_place f) → LayoutIs outcome (Err f) rows
 layout_refused outcome f rows e = record { answer = e; tables = tt; entered = tt; shown = tt }
 
-abbrev pub made : ℕ → ℕ → Zones → MapTables
+abbrev pub made : ℕ → ℕ → Zones → MapTables 128
 made n z t = record {
   vertices = n;
   zones = z;
@@ -112,11 +112,11 @@ layout_made file m n z t small few found outcome e rows rest =
 -- ---- the rows
 
 -- a map that is read, and one that is refused, with the rows cleared
-pub map_is : (outcome : Outcome Map) (r : Result MapTables MapFault) (rows : List (List ℕ)) → is_err r ≡ false → LayoutIs outcome r rows → MapIs outcome r rows
+pub map_is : (outcome : Outcome Map) (r : Result (MapTables 128) MapFault) (rows : List (List ℕ)) → is_err r ≡ false → LayoutIs outcome r rows → MapIs outcome r rows
 map_is outcome (Ok t) rows e l = record { answer = l.answer; tables = l.tables; entered = l.entered; shown = l.shown }
 map_is outcome (Err f) rows e l = cc
 
-pub cleared_is : (outcome : Outcome Map) (r : Result MapTables MapFault) (rows last : List (List ℕ)) → is_err r ≡ true → LayoutIs outcome r rows → last ≡ blank → MapIs outcome r last
+pub cleared_is : (outcome : Outcome Map) (r : Result (MapTables 128) MapFault) (rows last : List (List ℕ)) → is_err r ≡ true → LayoutIs outcome r rows → last ≡ blank → MapIs outcome r last
 unfolding join_all
 cleared_is outcome (Ok t) rows last e l k = cc
 cleared_is outcome (Err f) rows last e l k =

@@ -7,8 +7,8 @@ use Rattle.numbering.specs.Kind.{number_of}
 use Rattle.layout.specs.Lists.{MapLists}
 use Rattle.layout.specs.declared.MapTables.TheInside.{Inside}
 
-abbrev pub view_of : Inside → MapLists
-view_of a = record {
+abbrev pub view_of : {L : ℕ} → Inside L → MapLists
+view_of {L} a = record {
   vertices = a.vertices;
   zones = a.zones;
   kind = map number_of a.kind;
@@ -27,8 +27,8 @@ numbered (suc (suc zero)) = Hall
 numbered (suc (suc (suc zero))) = Clique
 numbered (suc (suc (suc (suc n)))) = Ring
 
-abbrev pub held_in : MapLists → Inside
-held_in t = record {
+abbrev pub held_in : {L : ℕ} → MapLists → Inside L
+held_in {L} t = record {
   vertices = t.vertices;
   zones = t.zones;
   kind = map numbered t.kind;
@@ -49,18 +49,18 @@ kinds_again : (l : List ZoneKind) → map numbered (map number_of l) ≡ l
 kinds_again [] = refl
 kinds_again (k ∷ l) = ap₂ (λ (x : ZoneKind) (xs : List ZoneKind). x ∷ xs) (numbered_again k) (kinds_again l)
 
-abbrev with_kinds : Inside → List ZoneKind → Inside
-with_kinds a l = record { vertices = a.vertices; zones = a.zones; kind = l; first = a.first; size = a.size; listed = a.listed; zone = a.zone; place = a.place }
+abbrev with_kinds : {L : ℕ} → Inside L → List ZoneKind → Inside L
+with_kinds {L} a l = record { vertices = a.vertices; zones = a.zones; kind = l; first = a.first; size = a.size; listed = a.listed; zone = a.zone; place = a.place }
 
 -- a map's lists give its tables back
-pub held_again : (a : Inside) → held_in (view_of a) ≡ a
-held_again a = ap (λ (l : List ZoneKind). with_kinds a l) (kinds_again a.kind)
+pub held_again : {L : ℕ} (a : Inside L) → held_in (view_of a) ≡ a
+held_again {L} a = ap (λ (l : List ZoneKind). with_kinds a l) (kinds_again a.kind)
 
 -- each table has an entry for each zone, or each vertex
-pub record Whole (a : Inside) : Type 0 where
+pub record Whole {L : ℕ} (a : Inside L) : Type 0 where
   pub kinds : length a.kind ≡ 64
   pub firsts : length a.first ≡ 64
   pub sizes : length a.size ≡ 64
-  pub listing : length a.listed ≡ 128
+  pub listing : length a.listed ≡ L
   pub zones_of : length a.zone ≡ 128
   pub places : length a.place ≡ 128

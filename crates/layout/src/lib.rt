@@ -12,20 +12,20 @@ use numbering::ZoneKind;
 use std::marker::Model;
 
 // A map. Zone z has the kind kind[z] and the vertices listed[first[z]] to listed[first[z] + size[z] - 1]; vertex v stands in zone
-// zone[v] at place place[v].
+// zone[v] at place place[v]. The listing has a place for L vertices: 128 of a map that was read.
 #[derive(Clone, Copy)]
-pub struct MapTables {
+pub struct MapTables<const L: usize> {
     vertices: u8,
     zones: u8,
     kind: [ZoneKind; 64],
     first: [u8; 64],
     size: [u8; 64],
-    listed: [u8; 128],
+    listed: [u8; L],
     zone: [u8; 128],
     place: [u8; 128],
 }
 
-impl Model for MapTables {
+impl<const L: usize> Model for MapTables<L> {
     ghost use Rattle.layout.specs.Lists.{MapLists};
 
     ghost Value = { MapLists };

@@ -56,7 +56,7 @@ fn read_rest(
 }
 
 // Reads a map from its payload; where it is refused, the rows are of no use.
-fn read_layout(payload: &PayloadBytes, rows: &mut Rows) -> Result<MapTables, MapFault>
+fn read_layout(payload: &PayloadBytes, rows: &mut Rows) -> Result<MapTables<128>, MapFault>
     ensures { LayoutIs (map_of (bytes payload.now)) result rows.new }
 {
     let counts = read_counts(payload)?;
@@ -85,7 +85,7 @@ fn read_layout(payload: &PayloadBytes, rows: &mut Rows) -> Result<MapTables, Map
 
 // Reads a map from its payload: the map, with its edges in the rows; or why it is refused, with no edge in the rows.
 // The rows are the caller's. In the map's tables, as tried, they are copied at each return: a map then takes 0.3 to 0.5 µs more to read.
-pub fn read_map(payload: &PayloadBytes, rows: &mut Rows) -> Result<MapTables, MapFault>
+pub fn read_map(payload: &PayloadBytes, rows: &mut Rows) -> Result<MapTables<128>, MapFault>
     ensures { MapIs (map_of (bytes payload.now)) result rows.new }
 {
     let read = read_layout(payload, rows);

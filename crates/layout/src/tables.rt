@@ -1,5 +1,5 @@
 // The tables of a map that was read: one by vertices is indexed by a vertex, one by zones by a zone, and by nothing else.
-ghost use Rattle.std.specs.Prelude.{◌≡◌, ◌↔◌, ◌+◌, ◌<◌, ◌≤◌, IsTrue, length, get_or};
+ghost use Rattle.std.specs.Prelude.{◌≡◌, ◌↔◌, ◌+◌, ◌<◌, ◌≤◌, IsTrue, length, get_or, map};
 ghost use Rattle.numbering.specs.Kind.{number_of};
 ghost use Rattle.layout.specs.Lists.{HasPart, part_of};
 
@@ -13,7 +13,32 @@ fn entry<const N: usize>(table: &[u8; N], i: usize, none: u8) -> u8
     table.get(i).copied().unwrap_or(none)
 }
 
-impl MapTables {
+impl<const L: usize> MapTables<L> {
+    // The tables of any arrays.
+    pub fn of(
+        vertices: u8,
+        zones: u8,
+        kind: [ZoneKind; 64],
+        first: [u8; 64],
+        size: [u8; 64],
+        listed: [u8; L],
+        zone: [u8; 128],
+        place: [u8; 128],
+    ) -> MapTables<L>
+        ensures { result ≡ record { vertices = vertices; zones = zones; kind = map number_of kind; first = first; size = size; listed = listed.entry; zone = zone; place = place } }
+    {
+        MapTables {
+            vertices,
+            zones,
+            kind,
+            first,
+            size,
+            listed,
+            zone,
+            place,
+        }
+    }
+
     // How many vertices there are.
     pub fn vertices(&self) -> usize
         ensures { result ≡ self.now.vertices }
@@ -61,13 +86,13 @@ impl MapTables {
     // Is a zone one of the tables', with its vertices in the listing?
     pub fn has_part(&self, z: Zone) -> bool
         ensures part { IsTrue result ↔ HasPart self.now z.0 }
-        ensures short { IsTrue result → get_or self.now.first z.0 0 + get_or self.now.size z.0 0 ≤ 128 }
+        ensures short { IsTrue result → get_or self.now.first z.0 0 + get_or self.now.size z.0 0 ≤ L }
     {
         let i = z.0 as usize;
         if i >= 64 {
             return false;
         }
-        self.first[i] as usize + self.size[i] as usize <= 128
+        self.first[i] as usize + self.size[i] as usize <= L
     }
 
     // The kind of a zone.
@@ -119,7 +144,7 @@ impl MapTables {
 
     // How many vertices the listing has a place for.
     pub fn room(&self) -> usize
-        ensures { (result ≡ 128) × (length self.now.listed ≡ 128) }
+        ensures { (result ≡ L) × (length self.now.listed ≡ L) }
     {
         let listed: &[u8] = &self.listed;
         listed.len()
@@ -133,14 +158,26 @@ impl MapTables {
     }
 
     // The vertices of a zone in listed order.
+    pub fn listed_of(&self, z: Zone) -> &[u8]
+        requires { HasPart self.now z.0 }
+        ensures { result.now ≡ part_of self.now z.0 }
+    {
+        let i = z.0 as usize;
+        let a = self.first[i] as usize;
+        let listed: &[u8] = &self.listed;
+        &listed[a..a + self.size[i] as usize]
+    }
+}
+
+impl MapTables<128> {
+    // The same of a map's zone: they are at most 128.
     pub fn vertices_of(&self, z: Zone) -> ZoneVertices<'_>
         requires { HasPart self.now z.0 }
         ensures { result.vertices.now ≡ part_of self.now z.0 }
     {
-        let i = z.0 as usize;
-        let a = self.first[i] as usize;
+        let _room = self.room();
         ZoneVertices {
-            vertices: &self.listed[a..a + self.size[i] as usize],
+            vertices: self.listed_of(z),
         }
     }
 }

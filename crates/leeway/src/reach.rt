@@ -20,7 +20,11 @@ fn named(nearest: Option<Robot>) -> u8
 
 // A place and its zone stay two values, here and below: each is used once, and apart.
 // "in a ring, the first cart met going backward from to"; none if the ring is empty.
-fn behind_round(state: &State, zone: &[u8], j: usize) -> Option<Robot>
+fn behind_round<const N: usize, const M: usize>(
+    state: &State<N, M>,
+    zone: &[u8],
+    j: usize,
+) -> Option<Robot>
     requires { j < length zone.now }
     ensures { MatchOption result (ring_behind (arrangement_of state.now zone.now) j ≡ 255)
         (λ r. (ring_behind (arrangement_of state.now zone.now) j ≡ r.0) × (r.0 ≢ 255)) }
@@ -32,7 +36,12 @@ fn behind_round(state: &State, zone: &[u8], j: usize) -> Option<Robot>
 }
 
 // The neighbour that a step to place j names: its behind, from the lent table of the robots by vertex.
-pub fn behind_of(kind: ZoneKind, state: &State, zone: &[u8], j: usize) -> u8
+pub fn behind_of<const N: usize, const M: usize>(
+    kind: ZoneKind,
+    state: &State<N, M>,
+    zone: &[u8],
+    j: usize,
+) -> u8
     requires { j < length zone.now }
     ensures { result ≡ behind_of (number_of kind) (arrangement_of state.now zone.now) j }
 {
@@ -44,14 +53,18 @@ pub fn behind_of(kind: ZoneKind, state: &State, zone: &[u8], j: usize) -> u8
 }
 
 // "'Full' means a cart on every point."
-pub fn is_full(state: &State, zone: &[u8]) -> bool
+pub fn is_full<const N: usize, const M: usize>(state: &State<N, M>, zone: &[u8]) -> bool
     ensures { result ≡ full (arrangement_of state.now zone.now) }
 {
     clique::is_full(state, zone)
 }
 
 // Does whoever enters fill a clique, so that the step has a follow list?
-pub fn fills(kind: ZoneKind, state: &State, zone: &[u8]) -> bool
+pub fn fills<const N: usize, const M: usize>(
+    kind: ZoneKind,
+    state: &State<N, M>,
+    zone: &[u8],
+) -> bool
     ensures { result ≡ (eqb (number_of kind) 3 and last_free (arrangement_of state.now zone.now)) }
 {
     let is_clique = kind == ZoneKind::Clique;
@@ -62,7 +75,13 @@ pub fn fills(kind: ZoneKind, state: &State, zone: &[u8]) -> bool
 }
 
 // "Leaving needs a reachable arrangement with the cart at from": robot r at place j.
-pub fn can_leave(kind: ZoneKind, state: &State, zone: &[u8], r: Robot, j: usize) -> bool
+pub fn can_leave<const N: usize, const M: usize>(
+    kind: ZoneKind,
+    state: &State<N, M>,
+    zone: &[u8],
+    r: Robot,
+    j: usize,
+) -> bool
     ensures { result ≡ can_leave (number_of kind) (arrangement_of state.now zone.now) r.0 j }
 {
     match kind {
@@ -73,9 +92,9 @@ pub fn can_leave(kind: ZoneKind, state: &State, zone: &[u8], r: Robot, j: usize)
 }
 
 // "Entering needs a reachable one with to empty and the named neighbour": robot r at place j of a zone that is not full.
-pub fn can_enter(
+pub fn can_enter<const N: usize, const M: usize>(
     kind: ZoneKind,
-    state: &State,
+    state: &State<N, M>,
     zone: ZoneVertices,
     r: Robot,
     j: usize,
@@ -92,7 +111,12 @@ pub fn can_enter(
 }
 
 // Is the goals' arrangement in the configuration?
-pub fn can_end(kind: ZoneKind, state: &State, zone: ZoneVertices, goals: &State) -> bool
+pub fn can_end<const N: usize, const M: usize, const P: usize, const Q: usize>(
+    kind: ZoneKind,
+    state: &State<N, M>,
+    zone: ZoneVertices,
+    goals: &State<P, Q>,
+) -> bool
     ensures { result ≡ can_end (number_of kind) (arrangement_of state.now zone.entry.vertices.now) (arrangement_of goals.now zone.entry.vertices.now) }
 {
     match kind {

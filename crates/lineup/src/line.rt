@@ -7,7 +7,12 @@ use motion::State;
 use numbering::{Robot, Vertex, ZoneVertices};
 
 // How many robots stand in a zone; they and their places are written to the first of the lent bytes.
-pub fn line_up(state: &State, zone: ZoneVertices, line: &mut [u8], places: &mut [u8]) -> usize
+pub fn line_up<const N: usize, const M: usize>(
+    state: &State<N, M>,
+    zone: ZoneVertices,
+    line: &mut [u8],
+    places: &mut [u8],
+) -> usize
     requires { (length zone.vertices.now ≤ length line.old) × (length zone.vertices.now ≤ length places.old) }
     ensures { Lined (arrangement_of state.now zone.entry.vertices.now) result line.new places.new }
 {

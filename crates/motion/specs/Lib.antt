@@ -4,4 +4,5 @@ pub mod Alone
 pub mod World
 pub mod Across
 pub mod Coupling
+pub mod Tables
 pub mod Compared

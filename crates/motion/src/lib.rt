@@ -7,6 +7,7 @@ ghost use Rattle.std.specs.Prelude.{◌≡◌, length, set, get_or, take};
 ghost use Rattle.spec.specs.Arrangement.{mv};
 ghost use Rattle.spec.specs.State.{robot_on};
 ghost use Rattle.motion.specs.States.{stood, moved_by};
+ghost use Rattle.motion.specs.Tables.{tabled};
 ghost use Rattle.motion.specs.World.{world, made, laid_move, one_more};
 
 pub mod zone;
@@ -16,14 +17,15 @@ use std::marker::Model;
 use writer::put_three;
 pub use zone::ListedVertices;
 
-// "A state holds the cart on each point and the point of each cart": 255 is no robot, and no vertex.
+// "A state holds the cart on each point and the point of each cart": 255 is no robot, and no vertex. It has a place for N vertices and
+// M robots: one of a placing for 128 and 64.
 #[derive(Clone, Copy)]
-pub struct State {
-    robots: [Robot; 128],
-    vertices: [Vertex; 64],
+pub struct State<const N: usize, const M: usize> {
+    robots: [Robot; N],
+    vertices: [Vertex; M],
 }
 
-impl Model for State {
+impl<const N: usize, const M: usize> Model for State<N, M> {
     ghost use Rattle.spec.specs.State as meaning;
 
     ghost Value = { meaning.State };
@@ -37,9 +39,9 @@ impl Model for State {
     ghost inverse_ok = { λ s h. held_again s };
 }
 
-impl State {
+impl State<128, 64> {
     // Robot i on the i-th of the first k starts.
-    pub fn standing(starts: [u8; 64], k: usize) -> State
+    pub fn standing(starts: [u8; 64], k: usize) -> State<128, 64>
         ensures { result ≡ stood (take k starts) }
     {
         let mut robots = [Robot(255); 128];
@@ -51,10 +53,30 @@ impl State {
         }
         State { robots, vertices }
     }
+}
 
-    // How many vertices a state has a place for. It has one for 64 robots.
+impl<const N: usize, const M: usize> State<N, M> {
+    // The state of two tables, as far as there is room: 255 where a table has no more entries.
+    pub fn of(robots: &[u8], vertices: &[u8]) -> State<N, M>
+        ensures { result ≡ tabled N M robots.now vertices.now }
+    {
+        let mut on = [Robot(255); N];
+        for i in 0..robots.len() {
+            put_cell(&mut on, i, Robot(robots[i]));
+        }
+        let mut at = [Vertex(255); M];
+        for i in 0..vertices.len() {
+            put_cell(&mut at, i, Vertex(vertices[i]));
+        }
+        State {
+            robots: on,
+            vertices: at,
+        }
+    }
+
+    // How many vertices a state has a place for. It has one for M robots.
     pub fn room(&self) -> usize
-        ensures { (result ≡ 128) × (length self.now.robots ≡ 128) × (length self.now.vertices ≡ 64) }
+        ensures { (result ≡ N) × (length self.now.robots ≡ N) × (length self.now.vertices ≡ M) }
     {
         let robots: &[Robot] = &self.robots;
         let _vertices: &[Vertex] = &self.vertices;

@@ -9,14 +9,27 @@ use motion::State;
 use numbering::{Robot, Vertex, ZoneVertices};
 
 // Who stands on place i, a vertex v, once robot r has come in at place j.
-fn robot_after(state: &State, v: Vertex, i: usize, j: usize, r: Robot) -> Robot
+fn robot_after<const N: usize, const M: usize>(
+    state: &State<N, M>,
+    v: Vertex,
+    i: usize,
+    j: usize,
+    r: Robot,
+) -> Robot
     ensures { result.0 ≡ seated state.now v.0 i j r.0 }
 {
     if i == j { r } else { state.robot_on(v) }
 }
 
 // Lays the follow list of robot r's step into place j of a zone from payload offset `off` on.
-fn write_list(state: &State, zone: &[u8], j: usize, r: Robot, off: usize, out: &mut [u8])
+fn write_list<const N: usize, const M: usize>(
+    state: &State<N, M>,
+    zone: &[u8],
+    j: usize,
+    r: Robot,
+    off: usize,
+    out: &mut [u8],
+)
     requires { (length zone.now ≤ 255) × (off < 4294967296) }
     ensures { out.new ≡ laid_all out.old off (followed state.now zone.now j r.0) }
 {
@@ -27,8 +40,8 @@ fn write_list(state: &State, zone: &[u8], j: usize, r: Robot, off: usize, out: &
 }
 
 // Lays a step from payload offset `off` on, with the follow list where it fills a clique; gives the offset after it.
-pub fn write_step(
-    state: &State,
+pub fn write_step<const N: usize, const M: usize>(
+    state: &State<N, M>,
     zone: ZoneVertices,
     j: usize,
     r: u8,

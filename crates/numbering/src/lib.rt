@@ -2,7 +2,7 @@
 #![tactic(auto)]
 
 ghost use Rattle.std.specs.Prelude.{◌≡◌, ◌<◌, ◌≤◌, length};
-ghost use Rattle.numbering.specs.Kind.{number_of, least_of, Decodes};
+ghost use Rattle.numbering.specs.Kind.{number_of, least_of, goes_as, Decodes};
 
 // A point.
 #[derive(Clone, Copy, Debug, PartialEq, Eq, PartialOrd, Ord)]
@@ -44,6 +44,13 @@ pub enum ZoneKind {
 pub struct NoKind(pub u8);
 
 impl ZoneKind {
+    // The kind by whose rules a zone with this number goes: where no kind has it, a hall's.
+    pub fn of(n: u8) -> ZoneKind
+        ensures { result ≡ goes_as n }
+    {
+        ZoneKind::try_from(n).unwrap_or(ZoneKind::Hall)
+    }
+
     // The kind's number, as map files have it.
     pub fn number(self) -> u8
         ensures { result ≡ number_of self }

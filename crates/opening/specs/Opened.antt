@@ -99,7 +99,7 @@ placing_first m b n q f = ⊎_elim
 -- ---- what is opened
 
 -- a map, a placing and a list of n moves that is legal and reaches the goals
-pub record ListRead (a b c : List ℕ) (map : MapTables) (placing : PlacingTables) (n : ℕ) : Type 0 where
+pub record ListRead (a b c : List ℕ) (map : MapTables 128) (placing : PlacingTables) (n : ℕ) : Type 0 where
   pub it : Instance
   pub instance : instance_of a b ≡ ok it
   pub p : List ℕ
@@ -117,7 +117,7 @@ FiledIs a (Ok f) = f.file.now ≡ a
 FiledIs a (Err e) = payload_of 10 1 9 a ≡ refused e
 
 -- a map and a placing that are accepted, as the code holds them
-pub record YardRead (a b : List ℕ) (map : MapTables) (placing : PlacingTables) (rows : List (List ℕ)) : Type 0 where
+pub record YardRead (a b : List ℕ) (map : MapTables 128) (placing : PlacingTables) (rows : List (List ℕ)) : Type 0 where
   pub it : Instance
   pub instance : instance_of a b ≡ ok it
   pub held : MapHeld map it.graph
@@ -219,7 +219,7 @@ module _ (a b : List ℕ) where
           small = small_at 65536 _ _ (map_of (take len (payload a))) (small_map (take len (payload a)) (written_bytes 10 1 9 a (take len (payload a)) ha read)) x;
         }
 
-    module _ (rows : List (List ℕ)) (t : MapTables) (r : MapIs (map_of (held a len)) (Ok t) rows) where
+    module _ (rows : List (List ℕ)) (t : MapTables 128) (r : MapIs (map_of (held a len)) (Ok t) rows) where
       m : Map
       m = map_or (map_of (held a len))
 
@@ -260,7 +260,7 @@ module _ (a b : List ℕ) where
 pub opened_yard : (a b c : List ℕ) (e : Refusal) → RefusedAs (instance_of a b) e → OpenedIs a b c (Err e)
 opened_yard a b c e w = λ K. record { answer = chain_instance a b c K _ _ w.answer; small = w.small }
 
-module _ (a b c : List ℕ) (t : MapTables) (pl : PlacingTables) (rows : List (List ℕ)) (d : YardRead a b t pl rows) where
+module _ (a b c : List ℕ) (t : MapTables 128) (pl : PlacingTables) (rows : List (List ℕ)) (d : YardRead a b t pl rows) where
   -- the move list's file is refused
   pub opened_file : (e : Refusal) → payload_of 40 4 128 c ≡ refused e → OpenedIs a b c (Err e)
   opened_file e w = λ K. record {

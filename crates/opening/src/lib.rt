@@ -18,7 +18,7 @@ use zoning::PayloadBytes;
 // A map and a placing that are accepted.
 #[derive(Clone, Copy)]
 pub struct Yard {
-    pub map: MapTables,
+    pub map: MapTables<128>,
     pub placing: PlacingTables,
 }
 

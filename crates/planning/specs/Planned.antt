@@ -59,7 +59,7 @@ JudgedIs a b c (Ok u) = (ms : List Move) × (meaning.plan_moves a b c ≡ ok ms)
 JudgedIs a b c (Err e) = RefusedAs (meaning.plan_moves a b c) e
 
 -- a map and a placing on which the plan is cleared, as the code holds them
-pub record YardCleared (a b c : List ℕ) (t : MapTables) (pl : PlacingTables) : Type 0 where
+pub record YardCleared (a b c : List ℕ) (t : MapTables 128) (pl : PlacingTables) : Type 0 where
   pub rows : List (List ℕ)
   pub yard : YardRead a b t pl rows
   pub len : ℕ
@@ -76,7 +76,7 @@ ClearedIs a b c (Err e) = RefusedAs (meaning.plan_moves a b c) e
 
 -- ---- the tables that the judge and the resolver are given
 
-module _ (a b : List ℕ) (t : MapTables) (pl : PlacingTables) (rows : List (List ℕ)) (d : YardRead a b t pl rows) where
+module _ (a b : List ℕ) (t : MapTables 128) (pl : PlacingTables) (rows : List (List ℕ)) (d : YardRead a b t pl rows) where
   zone_is : (z : ℕ) → z < zone_count d.it.graph → zone_at d.it.graph z ≡ record { kind = get_or t.kind z 0; vertices = take (get_or t.size z 0) (drop (get_or t.first z 0) t.listed) }
   zone_is z h = d.held.zone_at_lem z (omega (arith, d.held.count))
 
@@ -115,7 +115,7 @@ module _ (a b c : List ℕ) where
   unfolding meaning.plan_moves
   cleared_yard e w = record { answer = refused_bind _ _ _ _ w.answer; small = w.small }
 
-  module _ (t : MapTables) (pl : PlacingTables) (rows : List (List ℕ)) (d : YardRead a b t pl rows) where
+  module _ (t : MapTables 128) (pl : PlacingTables) (rows : List (List ℕ)) (d : YardRead a b t pl rows) where
     -- the plan's file is refused
     pub cleared_file : (e : Refusal) → payload_of 30 3 64 c ≡ refused e → RefusedAs (meaning.plan_moves a b c) e
     unfolding meaning.plan_moves
@@ -153,7 +153,7 @@ module _ (a b c : List ℕ) where
         resolved = sym j.answer;
       }
 
-  module _ (t : MapTables) (pl : PlacingTables) (y : YardCleared a b c t pl) where
+  module _ (t : MapTables 128) (pl : PlacingTables) (y : YardCleared a b c t pl) where
     -- there is a list
     pub judged_moves : meaning.plan_moves a b c ≡ ok y.moves
     judged_moves = plan_on t pl y.rows y.yard y.len y.read ∙ y.resolved

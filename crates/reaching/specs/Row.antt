@@ -16,8 +16,8 @@ abbrev pub row_of : meaning.State → List ℕ → List ℕ
 row_of s vs = order (meaning.arrangement_of s vs)
 
 -- the robots that a row has left
-abbrev pub robots_left : Row → List ℕ
-robots_left r = row_of r.state.now r.zone.now
+abbrev pub robots_left : {N M : ℕ} → Row N M → List ℕ
+robots_left {N} {M} r = row_of r.state.now r.zone.now
 
 -- a robot stands on the first vertex
 pub row_robot : (s : meaning.State) (vs us : List ℕ) (v r : ℕ) → vs ≡ v ∷ us → r ≡ meaning.robot_on s v → r ≢ 255 → row_of s vs ≡ r ∷ row_of s us

@@ -16,7 +16,11 @@ struct Count {
     all: usize,
 }
 
-fn count_robots(state: &State, zone: &[u8], named: Robot) -> Count
+fn count_robots<const N: usize, const M: usize>(
+    state: &State<N, M>,
+    zone: &[u8],
+    named: Robot,
+) -> Count
     ensures { Counted (row_of state.now zone.now) named.0 result.lower result.all }
 {
     let mut lower: usize = 0;
@@ -38,7 +42,12 @@ pub fn has_room(size: usize, j: usize, t: usize, u: usize) -> bool
 }
 
 // Can robot r leave at place j?
-pub fn can_leave(state: &State, zone: &[u8], r: Robot, j: usize) -> bool
+pub fn can_leave<const N: usize, const M: usize>(
+    state: &State<N, M>,
+    zone: &[u8],
+    r: Robot,
+    j: usize,
+) -> bool
     ensures { result ≡ hall_can_leave (arrangement_of state.now zone.now) r.0 j }
 {
     let Count { lower, all } = count_robots(state, zone, r);
@@ -46,7 +55,12 @@ pub fn can_leave(state: &State, zone: &[u8], r: Robot, j: usize) -> bool
 }
 
 // Can a robot enter at place j with the named one behind it, 255 for none?
-pub fn can_enter(state: &State, zone: &[u8], j: usize, behind: u8) -> bool
+pub fn can_enter<const N: usize, const M: usize>(
+    state: &State<N, M>,
+    zone: &[u8],
+    j: usize,
+    behind: u8,
+) -> bool
     ensures { result ≡ hall_can_enter (arrangement_of state.now zone.now) j behind }
 {
     let Count { lower, all } = count_robots(state, zone, Robot(behind));
@@ -57,14 +71,23 @@ pub fn can_enter(state: &State, zone: &[u8], j: usize, behind: u8) -> bool
 }
 
 // Are the goals in the configuration: the same robots in the same order?
-pub fn can_end(state: &State, zone: &[u8], goals: &State) -> bool
+pub fn can_end<const N: usize, const M: usize, const P: usize, const Q: usize>(
+    state: &State<N, M>,
+    zone: &[u8],
+    goals: &State<P, Q>,
+) -> bool
     ensures { result ≡ hall_can_end (arrangement_of state.now zone.now) (arrangement_of goals.now zone.now) }
 {
     Row { state, zone }.eq(Row { state: goals, zone })
 }
 
 // The nearest robot at a place lower than j and not lower than `from`.
-pub fn behind(state: &State, zone: &[u8], from: usize, j: usize) -> Option<Robot>
+pub fn behind<const N: usize, const M: usize>(
+    state: &State<N, M>,
+    zone: &[u8],
+    from: usize,
+    j: usize,
+) -> Option<Robot>
     ensures { MatchOption result (last_named (drop from (take j (arrangement_of state.now zone.now))) ≡ 255)
         (λ r. (last_named (drop from (take j (arrangement_of state.now zone.now))) ≡ r.0) × (r.0 ≢ 255)) }
 {

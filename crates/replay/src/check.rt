@@ -48,7 +48,7 @@ fn edge_between(rows: &[[u64; 2]; 128], u: Vertex, v: Vertex) -> bool
 
 // Robot r's move between two vertices, tested on a map for k robots: 46, 47, 48.
 fn fault_of(
-    state: &State,
+    state: &State<128, 64>,
     graph: Graph,
     k: usize,
     r: Robot,
@@ -71,7 +71,7 @@ fn fault_of(
 }
 
 // The lowest of k robots that is off its goal.
-fn off_goal(state: &State, goals: &[u8; 64], k: usize) -> Option<usize>
+fn off_goal(state: &State<128, 64>, goals: &[u8; 64], k: usize) -> Option<usize>
     requires { k ≤ 64 }
     ensures { off_goal result ≡ on_goals 0 state.now.vertices (take k goals.now) }
 {
@@ -90,7 +90,7 @@ fn replay_moves(
     count: u16,
     graph: Graph,
     k: usize,
-    state: &mut State,
+    state: &mut State<128, 64>,
 ) -> Result<(), ListFault>
     ensures { (m : Map) → m.size ≡ graph.entry.vertices → Shows graph.entry.rows.now m.edges → ReplayOf m k (take p.entry.len (payload p.entry.file.now)) count state.old result state.new }
 {

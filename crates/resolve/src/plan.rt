@@ -12,9 +12,9 @@ use motion::State;
 
 // Resolves the plan whose payload stands in a checked file, and which is cleared: the moves are laid into the buffer, after the two bytes of the
 // count, and counted.
-pub fn resolve_plan(
+pub fn resolve_plan<const L: usize>(
     file: &[u8],
-    map: &MapTables,
+    map: &MapTables<L>,
     starts: [u8; 64],
     goals: [u8; 64],
     k: usize,

@@ -14,11 +14,11 @@ use stepping::step::make_step;
 
 // Walks `count` steps of the payload that stands in a checked file, which all pass, as long as the moves are not more than a list holds, and
 // answers how many moves they are. The bytes of a step are read before the moves of the one before it are made.
-pub fn walk(
+pub fn walk<const L: usize>(
     file: &[u8],
     count: u16,
-    map: &MapTables,
-    state: &mut State,
+    map: &MapTables<L>,
+    state: &mut State<128, 64>,
     out: &mut [u8],
 ) -> Result<usize, TooManyMoves>
     requires { StartedOn file.now count map.now state.old }

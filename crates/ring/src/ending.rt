@@ -1,21 +1,29 @@
 // Ending a ring: its lowest-numbered robot, and the other places as a hall.
-ghost use Rattle.std.specs.Prelude.{◌≡◌, suc, ◌<◌, length, MatchOption};
+ghost use Rattle.std.specs.Prelude.{◌≡◌, suc, ◌<◌, length, eqb, not, MatchOption};
 ghost use Rattle.spec.specs.Arrangement.{order};
 ghost use Rattle.spec.specs.Ring.{opened};
-ghost use Rattle.spec.specs.State.{arrangement_of};
+ghost use Rattle.spec.specs.State.{arrangement_of, robot_on};
 ghost use Rattle.ring.specs.Ending.{lowest_cell};
 
 use motion::State;
 use numbering::{Robot, Vertex};
 
 // "the ring's lowest-numbered cart"
-pub fn lowest(state: &State, zone: &[u8]) -> Option<Robot>
+pub fn lowest<const N: usize, const M: usize>(state: &State<N, M>, zone: &[u8]) -> Option<Robot>
     ensures { MatchOption result (lowest_cell (order (arrangement_of state.now zone.now)) ≡ 0)
         (λ r. lowest_cell (order (arrangement_of state.now zone.now)) ≡ suc r.0) }
 {
     zone.iter()
-        .map(|&v| state.robot_on(Vertex(v)))
-        .filter(|&r| r != Robot(255))
+        .map(
+            |v|
+                ensures { result.0 ≡ robot_on state.entry.now v.now }
+            { state.robot_on(Vertex(*v)) },
+        )
+        .filter(
+            |r|
+                ensures { result ≡ not (eqb r.now.0 255) }
+            { *r != Robot(255) },
+        )
         .min()
 }
 

@@ -7,6 +7,7 @@ ghost use Rattle.std.specs.Prelude.{◌≡◌, true, ◌≤◌, ◌<◌, length}
 ghost use Rattle.spec.specs.Ring.{ring_can_leave, ring_leave, ring_enter, ring_can_end, ring_end};
 ghost use Rattle.spec.specs.State.{across, arrangement_of};
 ghost use Rattle.motion.specs.World.{world, made_all};
+ghost use Rattle.motion.specs.Coupling.{Listed};
 
 mod ending;
 
@@ -20,10 +21,10 @@ use turns::turning::{goes_on, step, turn_place};
 
 // "Leaving: push until at from": robot r, which can leave there, is pushed to place j.
 // A place and its ring stay two values: each body needs the ring apart, and pushes begin at other places of it.
-pub fn leave(
-    state: &mut State,
+pub fn leave<const N: usize, const M: usize>(
+    state: &mut State<N, M>,
     count: usize,
-    zone: ListedVertices,
+    zone: ListedVertices<N>,
     r: Robot,
     j: usize,
     out: &mut [u8],
@@ -35,12 +36,20 @@ pub fn leave(
     push_to(state, count, zone, r, j, out)
 }
 
+// A ring's vertices are different bytes: there are no more than 256.
+fn is_short<const N: usize>(ring: &[u8]) -> bool
+    requires { Listed N ring.now }
+    ensures { (result ≡ true) × (length ring.now ≤ 256) }
+{
+    ring.len() <= 256
+}
+
 // "Entering: while to is taken or the cart behind isn't the named one, push the cart on to, or if to is empty the first
 // behind it": place j is made ready. A robot that goes on alone from behind is the first behind still.
-pub fn enter(
-    state: &mut State,
+pub fn enter<const N: usize, const M: usize>(
+    state: &mut State<N, M>,
     count: usize,
-    zone: ListedVertices,
+    zone: ListedVertices<N>,
     j: usize,
     behind: u8,
     out: &mut [u8],
@@ -48,8 +57,9 @@ pub fn enter(
     requires j_in_bounds { j < length zone.vertices.now }
     ensures { world state.new result out.new ≡ made_all (world state.old count out.old) (across zone.entry.vertices.now (ring_enter (arrangement_of state.old zone.entry.vertices.now) j behind)) }
 {
-    prove!(state.room() == 128);
+    prove!(state.room() == N);
     let ring = zone.vertices;
+    prove!(is_short::<N>(ring));
     let m = ring.len();
     let mut count = count;
     let mut turn = turn_place(state, ring, j, Robot(behind));
@@ -70,17 +80,18 @@ pub fn enter(
 
 // "Ending: push the ring's lowest-numbered cart to its goal, then treat the other places .. as a hall": the robots go to
 // their goals, which can be reached.
-pub fn end(
-    state: &mut State,
+pub fn end<const N: usize, const M: usize, const P: usize, const Q: usize>(
+    state: &mut State<N, M>,
     count: usize,
-    zone: ListedVertices,
-    goals: &State,
+    zone: ListedVertices<N>,
+    goals: &State<P, Q>,
     out: &mut [u8],
 ) -> usize
+    requires zone_len_bound { length zone.vertices.now ≤ 128 }
     requires zone_value { ring_can_end (arrangement_of state.old zone.vertices.now) (arrangement_of goals.now zone.vertices.now) ≡ true }
     ensures { world state.new result out.new ≡ made_all (world state.old count out.old) (across zone.entry.vertices.now (ring_end (arrangement_of state.old zone.entry.vertices.now) (arrangement_of goals.now zone.entry.vertices.now))) }
 {
-    prove!(state.room() == 128);
+    prove!(state.room() == N);
     let ring = zone.vertices;
     let Some(r) = lowest(state, ring) else {
         return count;

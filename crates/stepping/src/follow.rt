@@ -10,7 +10,11 @@ use motion::State;
 use numbering::{Vertex, ZoneKind};
 
 // How many bytes the follow list of a step into a zone has.
-fn list_length(kind: ZoneKind, state: &State, zone: &[u8]) -> usize
+fn list_length<const N: usize, const M: usize>(
+    kind: ZoneKind,
+    state: &State<N, M>,
+    zone: &[u8],
+) -> usize
     ensures { result ≡ extra_of (number_of kind) (arrangement_of state.now zone.now) }
 {
     if leeway::fills(kind, state, zone) {
@@ -20,12 +24,15 @@ fn list_length(kind: ZoneKind, state: &State, zone: &[u8]) -> usize
 }
 
 // How many bytes the follow list of a step to vertex v has.
-pub fn list_length_at(map: &MapTables, state: &State, v: Vertex) -> usize
+pub fn list_length_at<const N: usize, const M: usize, const L: usize>(
+    map: &MapTables<L>,
+    state: &State<N, M>,
+    v: Vertex,
+) -> usize
     requires { (v.0 < 128) × ZoneOn map.now (get_or map.now.zone v.0 0) }
     ensures { result ≡ extra_of (kind_on map.now v.0) (arrangement_of state.now (vertices_on map.now v.0)) }
 {
     let z = map.zone_of(v);
     let kind = map.kind_of(z);
-    let zone = map.vertices_of(z);
-    list_length(kind, state, zone.vertices)
+    list_length(kind, state, map.listed_of(z))
 }

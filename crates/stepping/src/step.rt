@@ -15,14 +15,14 @@ use numbering::{Robot, Vertex};
 use wire::Four;
 
 // The moves of the step of four bytes at offset o, which passed its tests, with a follow list of n bytes.
-pub fn make_step(
-    state: &mut State,
+pub fn make_step<const M: usize, const L: usize>(
+    state: &mut State<128, M>,
     count: usize,
     file: &[u8],
     o: usize,
     four: Four,
     n: usize,
-    map: &MapTables,
+    map: &MapTables<L>,
     out: &mut [u8],
 ) -> usize
     requires stepping { SteppingOn file.now o n map.now state.old }

@@ -1,7 +1,7 @@
 // The earliest empty place, by the free word.
-ghost use Rattle.std.specs.Prelude.{◌≡◌, length};
+ghost use Rattle.std.specs.Prelude.{◌≡◌, length, eqb};
 ghost use Rattle.spec.specs.Arrangement.{Arrangement, seek};
-ghost use Rattle.spec.specs.State.{arrangement_of};
+ghost use Rattle.spec.specs.State.{arrangement_of, robot_on};
 ghost use Rattle.cells.specs.Cells.{PlaceFound};
 ghost use Rattle.tabling.specs.Places.{Tests, free_word};
 
@@ -34,10 +34,15 @@ fn earliest<F: Fn(u8) -> bool>(places: &[u8], is_empty: F) -> Option<usize>
 }
 
 // "the earliest listed empty point" of a zone.
-pub fn first_free(state: &State, zone: &[u8]) -> Option<usize>
+pub fn first_free<const N: usize, const M: usize>(state: &State<N, M>, zone: &[u8]) -> Option<usize>
     ensures { PlaceFound (length zone.now) (seek 0 (arrangement_of state.now zone.now)) result }
 {
-    earliest(zone, |v| state.robot_on(Vertex(v)) == Robot(255))
+    earliest(
+        zone,
+        |v|
+            ensures { result ≡ eqb (robot_on state.entry.now v) 255 }
+        { state.robot_on(Vertex(v)) == Robot(255) },
+    )
 }
 
 // The earliest empty place of an arrangement in cells.

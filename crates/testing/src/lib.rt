@@ -62,16 +62,16 @@ pub struct Step {
     pub list: usize,
 }
 
-// The lists of all zones: zone z's stands among the cells from its first on and has counts[z] robots.
-#[derive(Drop)]
-pub struct Lists {
-    pub cells: [u8; 128],
+// The lists of all zones: zone z's stands among the L cells from its first on and has counts[z] robots.
+#[derive(Clone, Copy)]
+pub struct Lists<const L: usize> {
+    pub cells: [u8; L],
     pub counts: [u8; 64],
 }
 
-impl Lists {
+impl<const L: usize> Lists<L> {
     // Where vertex v stands.
-    pub fn spot(&self, map: &MapTables, v: Vertex) -> Spot
+    pub fn spot(&self, map: &MapTables<L>, v: Vertex) -> Spot
         requires { FitsOn map.now self.now v.0 }
         ensures { SpotOf map.now self.now v.0 result }
     {

@@ -24,12 +24,18 @@ struct Entry {
 }
 
 // Where robot r, that is to leave its zone at vertex u, stands in the zone's list, if it can.
-fn leave_at(map: &MapTables, lists: &Lists, r: Robot, u: Vertex) -> Option<usize>
+fn leave_at<const L: usize>(
+    map: &MapTables<L>,
+    lists: &Lists<L>,
+    r: Robot,
+    u: Vertex,
+) -> Option<usize>
     requires { FitsOn map.now lists.now u.0 }
     ensures { LeaveFound (leave_test (kind_on map.now u.0) (size_on map.now u.0) (list_on map.now lists.now u.0) r.0 (place_on map.now u.0)) r.0 (count_on map.now lists.now u.0) (list_on map.now lists.now u.0) result }
 {
     let at = lists.spot(map, u);
-    leave_index(at, &lists.cells[at.first..], r)
+    let cells: &[u8] = &lists.cells;
+    leave_index(at, &cells[at.first..], r)
 }
 
 // How many bytes the follow list has of a step into a zone of `size` places with n robots.
@@ -74,11 +80,11 @@ fn test_entry(
 }
 
 // Robot r's entry at vertex v.
-fn test_entry_at(
+fn test_entry_at<const L: usize>(
     p: FiledPayload,
     o: usize,
-    map: &MapTables,
-    lists: &Lists,
+    map: &MapTables<L>,
+    lists: &Lists<L>,
     r: Robot,
     v: Vertex,
     behind: u8,
@@ -88,18 +94,19 @@ fn test_entry_at(
     ensures { EntryTested p.entry.file.now p.entry.len o (kind_on map.now v.0) (count_on map.now lists.now v.0) (list_on map.now lists.now v.0) (size_on map.now v.0) r.0 (place_on map.now v.0) behind result }
 {
     let at = lists.spot(map, v);
-    let inside = &lists.cells[at.first..][..at.count];
+    let cells: &[u8] = &lists.cells;
+    let inside = &cells[at.first..][..at.count];
     test_entry(p, o, at, inside, r, behind)
 }
 
 // The tests of the step at offset o of the payload, for k robots.
-pub fn test_step(
+pub fn test_step<const L: usize>(
     p: FiledPayload,
     o: usize,
-    map: &MapTables,
+    map: &MapTables<L>,
     rows: &[[u64; 2]; 128],
     k: usize,
-    lists: &Lists,
+    lists: &Lists<L>,
 ) -> Result<Step, StepFault>
     requires o_in_bounds { o ≤ p.len }
     requires ready { ReadyOn map.now k rows.now lists.now }

@@ -8,7 +8,13 @@ use layout::MapTables;
 use numbering::{Robot, Vertex};
 
 // Are the robot and the vertices of a step below k and the map's number of vertices?
-pub fn are_numbered(map: &MapTables, k: usize, r: Robot, u: Vertex, v: Vertex) -> bool
+pub fn are_numbered<const L: usize>(
+    map: &MapTables<L>,
+    k: usize,
+    r: Robot,
+    u: Vertex,
+    v: Vertex,
+) -> bool
     ensures { result ≡ numbered map.now.vertices k r.0 u.0 v.0 }
 {
     let n = map.vertices();
@@ -16,7 +22,12 @@ pub fn are_numbered(map: &MapTables, k: usize, r: Robot, u: Vertex, v: Vertex) -
 }
 
 // Does an edge lead from u to v, in another zone?
-pub fn is_crossing(map: &MapTables, rows: &[[u64; 2]; 128], u: Vertex, v: Vertex) -> bool
+pub fn is_crossing<const L: usize>(
+    map: &MapTables<L>,
+    rows: &[[u64; 2]; 128],
+    u: Vertex,
+    v: Vertex,
+) -> bool
     requires { (u.0 < 128) × (v.0 < 128) }
     ensures { (m : Map) (k : ℕ) → GivenOn m k map.now rows.now → u.0 < map.now.vertices → v.0 < map.now.vertices → result ≡ crosses m u.0 v.0 }
 {

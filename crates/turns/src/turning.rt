@@ -14,7 +14,11 @@ use numbering::Robot;
 
 // "in a ring, the first cart met going backward from to"; none if the ring is empty.
 // A place and its ring stay two values: the pushed place is another at each turn, and each is asked of once.
-pub fn behind(state: &State, zone: &[u8], j: usize) -> Option<Robot>
+pub fn behind<const N: usize, const M: usize>(
+    state: &State<N, M>,
+    zone: &[u8],
+    j: usize,
+) -> Option<Robot>
     requires { j < length zone.now }
     ensures { MatchOption result (ring_behind (arrangement_of state.now zone.now) j ≡ 255)
         (λ r. (r.0 ≡ ring_behind (arrangement_of state.now zone.now) j) × (r.0 ≢ 255)) }
@@ -31,7 +35,12 @@ pub fn behind(state: &State, zone: &[u8], j: usize) -> Option<Robot>
 
 // "push the cart on to, or if to is empty the first behind it": the place where the next push begins; none where place j
 // is empty and the named robot behind it, or nobody.
-pub fn turn_place(state: &State, zone: &[u8], j: usize, named: Robot) -> Option<usize>
+pub fn turn_place<const N: usize, const M: usize>(
+    state: &State<N, M>,
+    zone: &[u8],
+    j: usize,
+    named: Robot,
+) -> Option<usize>
     requires { j < length zone.now }
     ensures { MatchOption result (turn_at (arrangement_of state.now zone.now) j named.0 ≡ length zone.now)
         (λ p. (p < length zone.now) × (p ≡ turn_at (arrangement_of state.now zone.now) j named.0)) }
@@ -49,7 +58,12 @@ pub fn turn_place(state: &State, zone: &[u8], j: usize, named: Robot) -> Option<
 }
 
 // Does the robot pushed from place p go on alone: p is not place j, and nobody stands on the place after it.
-pub fn goes_on(state: &State, zone: &[u8], j: usize, p: usize) -> bool
+pub fn goes_on<const N: usize, const M: usize>(
+    state: &State<N, M>,
+    zone: &[u8],
+    j: usize,
+    p: usize,
+) -> bool
     requires { p < length zone.now }
     ensures { result ≡ goes_on (arrangement_of state.now zone.now) j p }
 {
@@ -58,7 +72,13 @@ pub fn goes_on(state: &State, zone: &[u8], j: usize, p: usize) -> bool
 }
 
 // The robot on place p, with nobody on the place after it, is pushed: it goes one place forward.
-pub fn step(state: &mut State, count: usize, zone: &[u8], p: usize, out: &mut [u8]) -> usize
+pub fn step<const N: usize, const M: usize>(
+    state: &mut State<N, M>,
+    count: usize,
+    zone: &[u8],
+    p: usize,
+    out: &mut [u8],
+) -> usize
     requires p_in_bounds { p < length zone.now }
     requires alone { Alone (arrangement_of state.old zone.now) p }
     ensures { world state.new result out.new ≡ made_all (world state.old count out.old) (across zone.now (pushed (arrangement_of state.old zone.now) p)) }

@@ -7,7 +7,7 @@ use motion::State;
 use numbering::{Robot, Vertex};
 
 // How many vertices of a zone a robot stands on. `filter` and `count` branch on each, and take up to twice as long.
-fn count_robots(state: &State, zone: &[u8]) -> usize
+fn count_robots<const N: usize, const M: usize>(state: &State<N, M>, zone: &[u8]) -> usize
     ensures { result ≡ count_by (λ v. not (eqb (robot_on state.now v) 255)) zone.now }
 {
     let mut n = 0;
@@ -20,7 +20,7 @@ fn count_robots(state: &State, zone: &[u8]) -> usize
 }
 
 // Is one place free, so that whoever enters fills the zone?
-pub fn last_free(state: &State, zone: &[u8]) -> bool
+pub fn last_free<const N: usize, const M: usize>(state: &State<N, M>, zone: &[u8]) -> bool
     ensures { result ≡ last_free (arrangement_of state.now zone.now) }
 {
     count_robots(state, zone) + 1 == zone.len()

@@ -10,7 +10,12 @@ use numbering::Robot;
 use tabling::placing::first_free;
 
 // Can robot r leave at place j: anywhere, but in a full clique only where it stands.
-pub fn can_leave(state: &State, zone: &[u8], r: Robot, j: usize) -> bool
+pub fn can_leave<const N: usize, const M: usize>(
+    state: &State<N, M>,
+    zone: &[u8],
+    r: Robot,
+    j: usize,
+) -> bool
     ensures { result ≡ clique_can_leave (arrangement_of state.now zone.now) r.0 j }
 {
     let packed = is_full(state, zone);
@@ -21,7 +26,13 @@ pub fn can_leave(state: &State, zone: &[u8], r: Robot, j: usize) -> bool
 }
 
 // Whoever stands on place j "goes to the earliest listed empty point".
-pub fn make_room(state: &mut State, count: usize, zone: &[u8], j: usize, out: &mut [u8]) -> usize
+pub fn make_room<const N: usize, const M: usize>(
+    state: &mut State<N, M>,
+    count: usize,
+    zone: &[u8],
+    j: usize,
+    out: &mut [u8],
+) -> usize
     ensures { world state.new result out.new ≡ made_all (world state.old count out.old) (across zone.now (make_room (arrangement_of state.old zone.now) j)) }
 {
     let x = robot_at(state, zone, j);
@@ -35,8 +46,8 @@ pub fn make_room(state: &mut State, count: usize, zone: &[u8], j: usize, out: &m
 }
 
 // "a cart standing on from (not the leaver) goes to the earliest listed empty point; then the leaver goes to from"
-pub fn leave(
-    state: &mut State,
+pub fn leave<const N: usize, const M: usize>(
+    state: &mut State<N, M>,
     count: usize,
     zone: &[u8],
     r: Robot,

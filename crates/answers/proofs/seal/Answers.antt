@@ -1,7 +1,6 @@
 -- `seal`: at each turn, the blocks passed are finished and the others as they were.
 use lib.ListN.{length-drop, length-take}
 use lib.Seq.{length-take-le}
-use Rattle.wire.specs.Kind.{number_of_file}
 use Rattle.wire.specs.Payload.{payload}
 use Rattle.answers.specs.Sealed.{up_to, up_all, part_is, seal_step, seal_end}
 use native.Mathlib.Omega.{arith}
@@ -27,7 +26,7 @@ pub loop-i-preserved : goal.loop-i-preserved
 loop-i-preserved c =
     let a = c.args in
     let o = c.loop-i in
-    let k = number_of_file a.kind in
+    let k = a.kind in
     let f = c.min-fill.result in
     let j : o.i * 512 + 512 - o.i * 512 ≡ 512 = omega arith in
     let e = seal_step a.out.now o.out c.seal_block.new.part k o.i a.len f _ j (search rules)
@@ -41,4 +40,4 @@ returns c =
     let n = (a.len + 503) / 504 in
     let e : o.i ≡ n = omega arith in
     let l = o.invariant.0 in
-    seal_end a.out.now o.out _ (number_of_file a.kind) a.len n _ _ (omega arith) refl (rw e at o.invariant.1) l (c.fill.ensures.after (λ y h. h)) (simp (length-take, length-drop) (omega arith)) refl
+    seal_end a.out.now o.out _ a.kind a.len n _ _ (omega arith) refl (rw e at o.invariant.1) l (c.fill.ensures.after (λ y h. h)) (simp (length-take, length-drop) (omega arith)) refl

@@ -9,7 +9,7 @@ use Rattle.hall.specs.Ends.{end_is}
 use Rattle.hall.proofs.end.Goals as goal
 
 pub returns : goal.returns
-returns c =
+returns g c =
     let a = c.args in
     let z = a.zone.vertices.now in
     let l = c.line_up-n in

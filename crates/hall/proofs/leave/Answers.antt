@@ -7,7 +7,7 @@ use Rattle.hall.specs.Ends.{leave_is}
 use Rattle.hall.proofs.leave.Goals as goal
 
 pub returns : goal.returns
-returns c =
+returns g c =
     let a = c.args in
     let z = a.zone.vertices.now in
     let m = c.make_way.ensures in

@@ -7,7 +7,7 @@ use Rattle.planning.specs.Planned.{planned, yard_cleared, yard_placement}
 use Rattle.planning.proofs.resolve_filed.Goals as goal
 
 pub resolve_plan-requires : goal.resolve_plan-requires
-resolve_plan-requires c = yard_cleared _ _ _ _ _ c.in_ok-map.ensures
+resolve_plan-requires c = (search rules, yard_cleared _ _ _ _ _ c.in_ok-map.ensures)
 
 pub returns-in_err-map : goal.returns-in_err-map
 returns-in_err-map c =

@@ -6,7 +6,7 @@ use lib.ListN.{length}
 use Rattle.std.specs.Option.{MatchOption}
 use Rattle.spec.specs.State.{arrangement_of, across}
 use Rattle.motion.specs.World.{world, made_all}
-use Rattle.motion.specs.Coupling.{Listed, listed_short}
+use Rattle.motion.specs.Coupling.{Listed}
 use Rattle.motion.specs.Across.{arrangement_length}
 use Rattle.circle.specs.Places.{next_under}
 use Rattle.circle.specs.Pushes.{pushed, push_robots}
@@ -16,10 +16,10 @@ use Rattle.ring.proofs.enter.Goals as goal
 use Rattle.ring.proofs.enter.Goals.{then-goes_on, else-goes_on}
 
 pub overflow_mul-end : goal.overflow_mul-end
-overflow_mul-end c = let h : length c.args.zone.vertices.now ≤ 128 = listed_short 128 c.args.zone.vertices.now c.args.zone.listed in search rules
+overflow_mul-end g c = let h : length c.args.zone.vertices.now ≤ 256 = c.is_short.ensures.1 in search rules
 
 pub loop-init : goal.loop-init
-loop-init c =
+loop-init g c =
     let a = c.args in
     let s = a.state.now in
     let z = a.zone.vertices.now in
@@ -32,21 +32,22 @@ loop-init c =
     }
 
 pub returns-in_default : goal.returns-in_default
-returns-in_default c =
+returns-in_default g c =
     let a = c.args in
     let o = c.loop in
     turn_rest (world o.state o.count o.out) o.state a.zone.vertices.now a.j a.behind _ c.requires.j_in_bounds (sym (rw c.in_default.is at o.invariant.next)) ∙ o.invariant.left
 
-pub step-count-requires-clause-alone : goal.step-count-requires-clause-alone
-step-count-requires-clause-alone c =
+pub step-count-requires : goal.step-count-requires
+step-count-requires g c =
     let a = c.args in
     let s = c.loop.state in
     let z = a.zone.vertices.now in
     let f = rw c.in-Some.is at c.loop.invariant.next in
-    goes_alone (arrangement_of s z) a.j a.behind c.in-Some.p (omega (arith, f.0, arrangement_length s z)) f.1 (sym c.goes_on.ensures ∙ c.if-goes_on.true)
+    let h = goes_alone (arrangement_of s z) a.j a.behind c.in-Some.p (omega (arith, f.0, arrangement_length s z)) f.1 (sym c.goes_on.ensures ∙ c.if-goes_on.true) in
+    search (rules, f, h)
 
 pub loop-preserved : goal.loop-preserved
-loop-preserved c =
+loop-preserved g c =
     let a = c.args in
     let o = c.loop in
     let i = c.if-goes_on in
@@ -76,7 +77,7 @@ loop-preserved c =
     }
 
 pub returns : goal.returns
-returns c =
+returns g c =
     let a = c.args in
     let o = c.loop in
     turn_over (world o.state o.count o.out) a.zone.vertices.now _ a.j a.behind _ (omega arith) ∙ o.invariant.left

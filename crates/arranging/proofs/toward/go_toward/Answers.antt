@@ -11,7 +11,7 @@ use Rattle.arranging.proofs.toward.go_toward.Goals as goal
 use Rattle.arranging.proofs.toward.go_toward.Goals.{in-Some, in_default+else-x-eq0}
 
 pub returns-then-x-eq0 : goal.returns-then-x-eq0
-returns-then-x-eq0 c =
+returns-then-x-eq0 g c =
     let a = c.args in
     let o = c.loop in
     let g = a.goal.now in
@@ -21,13 +21,13 @@ returns-then-x-eq0 c =
     ∙ o.invariant.moves
 
 pub go-from-requires : goal.go-from-requires
-go-from-requires c =
+go-from-requires g c =
     let o = c.loop in
     let f = c.unwrap_or-j.ensures ∙ found_or_size (length o.cells) (seek 0 o.cells) c.first_empty.result c.first_empty.ensures in
     omega (arith, (seek_empty o.cells c.unwrap_or-j.result f).1, o.auto.cells, c.requires.0)
 
 pub loop-preserved : goal.loop-preserved
-loop-preserved c =
+loop-preserved g c =
     let a = c.args in
     let o = c.loop in
     let g = a.goal.now in
@@ -77,6 +77,6 @@ loop-preserved c =
     ]
 
 pub returns : goal.returns
-returns c =
+returns g c =
     let o = c.loop in
     made_nothing (world o.state o.count o.out) c.args.zone.now _ (to_none _ o.cells c.args.goal.now (omega arith)) ∙ o.invariant.moves

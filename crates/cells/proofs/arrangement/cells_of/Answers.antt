@@ -5,7 +5,7 @@ use Rattle.cells.specs.Cells.{overlaid_step, overlaid_end}
 use Rattle.cells.proofs.arrangement.cells_of.Goals as goal
 
 pub loop-k-preserved : goal.loop-k-preserved
-loop-k-preserved c =
+loop-k-preserved g c =
     let s = c.args.state.now in
     let z = c.args.zone.now in
     let o = c.loop-k in
@@ -15,7 +15,7 @@ loop-k-preserved c =
     refl ∙ o.invariant
 
 pub returns : goal.returns
-returns c =
+returns g c =
     let s = c.args.state.now in
     let z = c.args.zone.now in
     let o = c.loop-k in

@@ -4,7 +4,7 @@ use Rattle.motion.specs.Across.{across_move_lem}
 use Rattle.cells.proofs.arrangement.go.Goals as goal
 
 pub returns-clause-out_after : goal.returns-clause-out_after
-returns-clause-out_after c =
+returns-clause-out_after g c =
     let a = c.args in
     c.make.ensures
     ∙ ap (made (world a.state.now a.count a.out.now))

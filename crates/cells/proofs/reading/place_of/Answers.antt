@@ -7,9 +7,9 @@ use Rattle.theory.specs.Maps.Cells.{cell_of_lem}
 use Rattle.cells.proofs.reading.place_of.Goals as goal
 
 pub returns-then-eq : goal.returns-then-eq
-returns-then-eq c = sym (seek_nobody c.args.state.now c.args.zone.now c.args.r.0 (search rules))
+returns-then-eq g c = sym (seek_nobody c.args.state.now c.args.zone.now c.args.r.0 (search rules))
 
 pub returns : goal.returns
-returns c =
+returns g c =
     let z = c.args.zone.now in
     subst (λ (x : ℕ). PlaceFound (length z) (seek x (arrangement_of c.args.state.now z)) c.seek_robot.result) (cell_of_lem (search rules)) c.seek_robot.ensures

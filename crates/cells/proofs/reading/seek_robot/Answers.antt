@@ -5,7 +5,7 @@ use Rattle.cells.specs.Reading.{robot_first}
 use Rattle.cells.proofs.reading.seek_robot.Goals as goal
 
 pub returns : goal.returns
-returns c =
+returns g c =
     let s = c.args.state.now in
     let r = c.args.r.0 in
     let vs = c.args.zone.now in

@@ -15,7 +15,7 @@ use Rattle.circle.proofs.pushing.push.Goals as goal
 use Rattle.circle.proofs.pushing.push.Goals.{then-last, else-last}
 
 pub loop-k-init : goal.loop-k-init
-loop-k-init c =
+loop-k-init g c =
     let a = c.args in
     let z = a.zone.vertices.now in
     let s = a.state.now in
@@ -26,7 +26,7 @@ loop-k-init c =
     }
 
 pub loop-k-preserved : goal.loop-k-preserved
-loop-k-preserved c =
+loop-k-preserved g c =
     let a = c.args in
     let o = c.loop-k in
     let z = a.zone.vertices.now in
@@ -55,7 +55,7 @@ loop-k-preserved c =
     }
 
 pub returns : goal.returns
-returns c =
+returns g c =
     let a = c.args in
     let o = c.loop-k in
     let z = a.zone.vertices.now in

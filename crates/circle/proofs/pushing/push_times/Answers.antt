@@ -8,7 +8,7 @@ use Rattle.circle.specs.Pushes.{push_robots, pushes_step, pushes_done}
 use Rattle.circle.proofs.pushing.push_times.Goals as goal
 
 pub loop-preserved : goal.loop-preserved
-loop-preserved c =
+loop-preserved g c =
     let a = c.args in
     let o = c.loop in
     let z = a.zone.vertices.now in
@@ -22,7 +22,7 @@ loop-preserved c =
     }
 
 pub returns : goal.returns
-returns c =
+returns g c =
     let a = c.args in
     let o = c.loop in
     pushes_done (world o.state o.count o.out) a.zone.vertices.now _ o.at (a.n - o.counter) (omega arith) ∙ o.invariant.left

@@ -8,13 +8,10 @@ use Rattle.circle.specs.Pushes.{pushes_to}
 use Rattle.circle.proofs.pushing.push_to.Goals as goal
 
 pub returns-in_default : goal.returns-in_default
-returns-in_default c = absurd (omega (arith, c.in_default.ensures, c.requires.zone_in_bounds))
-
-pub push_times-requires : goal.push_times-requires
-push_times-requires c = record { p_in_bounds = c.in-Some.ensures.0 }
+returns-in_default g c = absurd (omega (arith, c.in_default.ensures, c.requires.zone_in_bounds))
 
 pub returns : goal.returns
-returns c =
+returns g c =
     let a = c.args in
     let z = a.zone.vertices.now in
     let s = a.state.now in

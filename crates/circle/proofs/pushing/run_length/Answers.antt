@@ -8,7 +8,7 @@ use Rattle.circle.specs.Runs.{run_counted}
 use Rattle.circle.proofs.pushing.run_length.Goals as goal
 
 pub returns : goal.returns
-returns c =
+returns g c =
     let a = c.args in
     let s = a.state.now in
     let z = a.zone.now in

@@ -6,7 +6,7 @@ use Rattle.circle.specs.Reading.{vacant_all}
 use Rattle.circle.proofs.reading.is_vacant.Goals as goal
 
 pub returns : goal.returns
-returns c =
+returns g c =
     let s = c.args.state.now in
     let z = c.args.zone.now in
     all_from_yields_List (λ v. eqb (robot_on s v) 255) _ _ _ c.all.ensures.ran (YieldsList-from_slice z cc) (λ x b q k. search (rules, tests)) ∙ vacant_all s z

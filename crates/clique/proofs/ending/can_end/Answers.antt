@@ -7,7 +7,7 @@ use Rattle.clique.specs.Entering.{cells_are}
 use Rattle.clique.proofs.ending.can_end.Goals as goal
 
 pub returns-then-packed : goal.returns-then-packed
-returns-then-packed c =
+returns-then-packed g c =
     let p = c.args in
     let z = p.zone.vertices.now in
     let f = cells_are p.state.now z _ p.zone.short c.cells_of.ensures in
@@ -15,7 +15,7 @@ returns-then-packed c =
     c.same_cells.ensures ∙ ap₂ same_list f h ∙ can_end_full (arrangement_of p.state.now z) (arrangement_of p.goals.now z) (sym c.if-packed.true ∙ c.is_full-packed.ensures)
 
 pub returns : goal.returns
-returns c =
+returns g c =
     let p = c.args in
     let z = p.zone.vertices.now in
     let f = cells_are p.state.now z _ p.zone.short c.cells_of.ensures in

@@ -10,14 +10,14 @@ use Rattle.clique.specs.Entering.{enter_room, enter_fill, extra_fill, extra_room
 use Rattle.clique.proofs.entering.enter.Goals as goal
 
 pub fill-requires : goal.fill-requires
-fill-requires c =
+fill-requires g c =
     let p = c.args in
     let s = p.state.now in
     let f = extra_fill (arrangement_of s p.zone.vertices.now) (length p.list.now) c.requires.list_len (search (rules, tests)) in
-    record { list_len = f.1 ∙ arrangement_length s p.zone.vertices.now; numbered = c.requires.numbered; distinct = c.requires.distinct }
+    (search rules, (f.1 ∙ arrangement_length s p.zone.vertices.now, (c.requires.numbered, c.requires.distinct)))
 
 pub returns : goal.returns
-returns c =
+returns g c =
     let p = c.args in
     let z = p.zone.vertices.now in
     let s = p.state.now in
@@ -26,7 +26,7 @@ returns c =
     (enter_fill (arrangement_of s z) 0 p.j 0 p.list.now (length z) (extra_fill (arrangement_of s z) (length p.list.now) c.requires.list_len (search (rules, tests))).0 (sym (arrangement_length s z)))
 
 pub returns-then-is_empty : goal.returns-then-is_empty
-returns-then-is_empty c =
+returns-then-is_empty g c =
     let p = c.args in
     let z = p.zone.vertices.now in
     let s = p.state.now in

@@ -9,15 +9,15 @@ use Rattle.clique.specs.Entering.{cells_are, named_cells, cells_named, filled_st
 use Rattle.clique.proofs.entering.fill.Goals as goal
 
 pub go_toward-requires : goal.go_toward-requires
-go_toward-requires c =
+go_toward-requires g c =
     let p = c.args in
     let z = p.zone.vertices.now in
     let f = cells_are p.state.now z _ p.zone.short c.cells_of.ensures in
     let l = ap length f ∙ arrangement_length p.state.now z in
-    (omega (arith, l, p.zone.short), ap length c.goal_cells.ensures ∙ cells_named p.list.now p.j ∙ c.requires.list_len ∙ sym l, distinct_of f c.requires.distinct)
+    (search rules, (omega (arith, l, p.zone.short), ap length c.goal_cells.ensures ∙ cells_named p.list.now p.j ∙ c.requires.list_len ∙ sym l, distinct_of f c.requires.distinct))
 
 pub returns-then-moves : goal.returns-then-moves
-returns-then-moves c =
+returns-then-moves g c =
     let p = c.args in
     let z = p.zone.vertices.now in
     let f = cells_are p.state.now z _ p.zone.short c.cells_of.ensures in
@@ -25,7 +25,7 @@ returns-then-moves c =
     c.go_toward.ensures ∙ ap (λ (ms : List Move). made_all (world p.state.now p.count p.out.now) (across z ms)) (ap₂ (clique_to (length z * 2)) f h)
 
 pub returns : goal.returns
-returns c =
+returns g c =
     let p = c.args in
     let z = p.zone.vertices.now in
     let f = cells_are p.state.now z _ p.zone.short c.cells_of.ensures in

@@ -1,3 +1,4 @@
+use borrow.Author.Rules.{rules}
 use Rattle.crossing.specs.Sides.{looked, enter_looked}
 use Rattle.walking.specs.Held.{held_part}
 use Rattle.comparing.specs.Comparing.{cells_length}
@@ -11,54 +12,55 @@ use mathlib.Core.Path.{◌≡◌, sym, ap, ◌∙◌}
 use Rattle.crossing.proofs.sides.enter_at.Goals as goal
 
 pub kind_of-kind-requires : goal.kind_of-kind-requires
-kind_of-kind-requires c = rw (c.zone_of-z.ensures.below c.requires.has_vertex.below) c.requires.has_vertex.here.below
+kind_of-kind-requires g c = (search rules, rw (c.zone_of-z.ensures.below c.requires.has_vertex.below) c.requires.has_vertex.here.below)
 
-pub vertices_of-requires : goal.vertices_of-requires
-vertices_of-requires c =
+pub listed_of-requires : goal.listed_of-requires
+listed_of-requires g c =
     let e = c.zone_of-z.ensures.below c.requires.has_vertex.below in
-    record { below = rw e c.requires.has_vertex.here.below; inside = rw e c.requires.has_vertex.here.fits }
+    (search rules, record { below = rw e c.requires.has_vertex.here.below; inside = rw e c.requires.has_vertex.here.fits })
 
 pub invariant_of-zone : goal.invariant_of-zone
-invariant_of-zone c = record { listed = rw (c.vertices_of.ensures, c.zone_of-z.ensures.below c.requires.has_vertex.below) c.requires.has_vertex.here.once }
+invariant_of-zone g c = record { listed = rw (c.listed_of.ensures, c.zone_of-z.ensures.below c.requires.has_vertex.below) c.requires.has_vertex.here.once }
 
 pub enter_room-requires : goal.enter_room-requires
 unfolding arrangement_of
-enter_room-requires c =
-    let l = looked c.args.map.now c.args.v.0 _ _ _ _ (c.zone_of-z.ensures.below c.requires.has_vertex.below) c.kind_of-kind.ensures c.place_of-j.ensures c.vertices_of.ensures in
-    record {
-      zone_len_bound = (rw (l.vertices, l.places) c.requires.has_vertex.inside, rw (l.vertices, l.places) c.requires.has_vertex.there);
-      proper = rw l.vertices c.requires.proper;
-      zone_value = rw (l.kinds, l.vertices) (sym c.requires.n_value ∙ c.if-n-eq0.true);
-    }
+enter_room-requires g c =
+    let l = looked c.args.map.now c.args.v.0 _ _ _ _ (c.zone_of-z.ensures.below c.requires.has_vertex.below) c.kind_of-kind.ensures c.place_of-j.ensures c.listed_of.ensures in (
+      search rules,
+      (
+        (rw (l.vertices, l.places) c.requires.has_vertex.inside, rw (l.vertices, l.places) c.requires.has_vertex.there),
+        (rw l.vertices c.requires.proper, rw (l.kinds, l.vertices) (sym c.requires.n_value ∙ c.if-n-eq0.true)),
+      ),
+    )
 
 pub returns-then-n-eq0 : goal.returns-then-n-eq0
 unfolding arrangement_of
-returns-then-n-eq0 c =
+returns-then-n-eq0 g c =
     let a = c.args in
-    let l = looked a.map.now a.v.0 _ _ _ _ (c.zone_of-z.ensures.below c.requires.has_vertex.below) c.kind_of-kind.ensures c.place_of-j.ensures c.vertices_of.ensures in
+    let l = looked a.map.now a.v.0 _ _ _ _ (c.zone_of-z.ensures.below c.requires.has_vertex.below) c.kind_of-kind.ensures c.place_of-j.ensures c.listed_of.ensures in
     c.enter_room.ensures ∙ enter_looked (world a.state.now a.count a.out.now) a.state.now a.map.now a.v.0 _ _ _ _ l a.behind [] _ (ap (λ (y : ℕ). held_part a.file.now (a.from + y) a.from y) (sym c.if-n-eq0.true))
 
 pub slice_bounds-enter_in-end : goal.slice_bounds-enter_in-end
-slice_bounds-enter_in-end c =
+slice_bounds-enter_in-end g c =
     sym (cells_length c.args.n c.requires.n_bound.0)
 
 pub enter_in-requires : goal.enter_in-requires
 unfolding arrangement_of
-enter_in-requires c =
+enter_in-requires g c =
     let a = c.args in
-    let l = looked a.map.now a.v.0 _ _ _ _ (c.zone_of-z.ensures.below c.requires.has_vertex.below) c.kind_of-kind.ensures c.place_of-j.ensures c.vertices_of.ensures in
-    let x : length {A = ℕ} (take a.n (replicate 128 0)) ≡ a.n = cells_length a.n c.requires.n_bound.0 in
-    record {
-      zone_len_bound = (rw (l.vertices, l.places) c.requires.has_vertex.inside, omega (arith, x, c.requires.n_bound));
-      numbered = rw (x, l.places) c.requires.numbered;
-      proper = rw l.vertices c.requires.proper;
-      list_len = x ∙ rw (l.kinds, l.vertices) c.requires.n_value;
-    }
+    let l = looked a.map.now a.v.0 _ _ _ _ (c.zone_of-z.ensures.below c.requires.has_vertex.below) c.kind_of-kind.ensures c.place_of-j.ensures c.listed_of.ensures in
+    let x : length {A = ℕ} (take a.n (replicate 128 0)) ≡ a.n = cells_length a.n c.requires.n_bound.0 in (
+      search rules,
+      (
+        (rw (l.vertices, l.places) c.requires.has_vertex.inside, omega (arith, x, c.requires.n_bound)),
+        (rw (x, l.places) c.requires.numbered, (rw l.vertices c.requires.proper, x ∙ rw (l.kinds, l.vertices) c.requires.n_value)),
+      ),
+    )
 
 pub returns : goal.returns
 unfolding arrangement_of
-returns c =
+returns g c =
     let a = c.args in
-    let l = looked a.map.now a.v.0 _ _ _ _ (c.zone_of-z.ensures.below c.requires.has_vertex.below) c.kind_of-kind.ensures c.place_of-j.ensures c.vertices_of.ensures in
+    let l = looked a.map.now a.v.0 _ _ _ _ (c.zone_of-z.ensures.below c.requires.has_vertex.below) c.kind_of-kind.ensures c.place_of-j.ensures c.listed_of.ensures in
     let x : length {A = ℕ} (take a.n (replicate 128 0)) ≡ a.n = cells_length a.n c.requires.n_bound.0 in
     c.enter_in.ensures ∙ enter_looked (world a.state.now a.count a.out.now) a.state.now a.map.now a.v.0 _ _ _ _ l a.behind _ _ (ap (λ (y : ℕ). held_part a.file.now (a.from + y) a.from y) x)

@@ -1,3 +1,4 @@
+use Rattle.motion.specs.Coupling.{listed_short}
 use Rattle.numbering.specs.Kind.{number_of}
 use native.Mathlib.Nat.{le_refl}
 use Rattle.walking.specs.Kinds.{enter_moves}
@@ -13,14 +14,14 @@ use Rattle.crossing.proofs.sides.enter_in.Goals as goal
 
 pub enter-requires : goal.enter-requires
 unfolding arrangement_of
-enter-requires c =
+enter-requires g c =
     let a = c.args in
     let e = c.copy_list.ensures (a.from + length a.list.now) c.requires.zone_len_bound.1 (le_refl _) in
-    record { j_in_bounds = c.requires.zone_len_bound.0; numbered = rw e c.requires.numbered; proper = c.requires.proper; list_len = search (rules, c.requires.list_len) }
+    (search rules, (search rules, ((listed_short 128 a.zone.vertices.now a.zone.listed, c.requires.zone_len_bound.0), (rw e c.requires.numbered, (c.requires.proper, search (rules, c.requires.list_len))))))
 
 pub returns : goal.returns
 unfolding arrangement_of
-returns c =
+returns g c =
     let a = c.args in
     let e = c.copy_list.ensures (a.from + length a.list.now) c.requires.zone_len_bound.1 (le_refl _) in
     c.enter.ensures

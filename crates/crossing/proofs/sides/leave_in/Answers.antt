@@ -1,3 +1,4 @@
+use Rattle.motion.specs.Coupling.{listed_short}
 use Rattle.numbering.specs.Kind.{number_of}
 use Rattle.crossing.specs.Sides.{left_near}
 use Rattle.motion.specs.World.{world}
@@ -9,7 +10,7 @@ use Rattle.crossing.proofs.sides.leave_in.Goals as goal
 
 pub returns-then-near : goal.returns-then-near
 unfolding arrangement_of
-returns-then-near c =
+returns-then-near g c =
     let a = c.args in
     let q : c.robot_on-there.result.0 ≡ 255 = search (rules, tests) in
     let w : c.robot_at-x.result.0 ≡ a.r.0 = search (rules, tests) in
@@ -17,9 +18,10 @@ returns-then-near c =
 
 pub leave-requires : goal.leave-requires
 unfolding arrangement_of
-leave-requires c =
-    record { j_in_bounds = c.requires.zone_len_bound.0; j_value = c.requires.j_value }
+leave-requires g c =
+    let a = c.args in
+    (search rules, (search rules, ((listed_short 128 a.zone.vertices.now a.zone.listed, c.requires.zone_len_bound.0), c.requires.j_value)))
 
 pub returns : goal.returns
 unfolding arrangement_of
-returns c = c.leave.ensures
+returns g c = c.leave.ensures

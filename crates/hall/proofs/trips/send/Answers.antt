@@ -8,7 +8,7 @@ use Rattle.hall.specs.Trips.{down_more, down_done, up_more, up_done}
 use Rattle.hall.proofs.trips.send.Goals as goal
 
 pub loop-at-preserved : goal.loop-at-preserved
-loop-at-preserved c =
+loop-at-preserved g c =
     let a = c.args in
     let o = c.loop-at in
     let z = a.zone.now in
@@ -18,7 +18,7 @@ loop-at-preserved c =
     (down_more a.r.0 o.at a.to (omega arith)) ∙ o.invariant
 
 pub loop-at-2-preserved : goal.loop-at-2-preserved
-loop-at-2-preserved c =
+loop-at-2-preserved g c =
     let a = c.args in
     let o = c.loop-at-2 in
     let z = a.zone.now in
@@ -29,7 +29,7 @@ loop-at-2-preserved c =
     (up_more a.r.0 o.at a.to (omega arith)) ∙ o.invariant
 
 pub returns : goal.returns
-returns c =
+returns g c =
     let a = c.args in
     let o = c.loop-at in
     let p = c.loop-at-2 in

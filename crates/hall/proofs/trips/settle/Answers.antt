@@ -9,7 +9,7 @@ use Rattle.hall.proofs.trips.settle.Goals as goal
 use Rattle.hall.proofs.trips.settle.Goals.{then-goals-i, else-goals-i}
 
 pub loop-i-preserved : goal.loop-i-preserved
-loop-i-preserved c =
+loop-i-preserved g c =
     let a = c.args in
     let o = c.loop-i in
     let z = a.zone.now in
@@ -30,13 +30,13 @@ loop-i-preserved c =
     ]
 
 pub loop-i-2-init : goal.loop-i-2-init
-loop-i-2-init c =
+loop-i-2-init g c =
     let a = c.args in
     let z = a.zone.now in
     made_none _ _ (ap (across z) (raising_done a.line.now a.places.now a.goals.now c.requires.0 c.requires.1 (length a.line.now) (omega arith)) ∙ across_nil z)
 
 pub loop-i-2-preserved-then-places-i : goal.loop-i-2-preserved-then-places-i
-loop-i-2-preserved-then-places-i c =
+loop-i-2-preserved-then-places-i g c =
     let a = c.args in
     let l = c.loop-i in
     let o = c.loop-i-2 in
@@ -55,7 +55,7 @@ loop-i-2-preserved-then-places-i c =
     ∙ ap (λ (ms : List Move). made_all u (across z ms)) (sym (raising_more rs ps gs c.requires.0 c.requires.1 o.i (omega arith) (omega arith)))
 
 pub loop-i-2-preserved : goal.loop-i-2-preserved
-loop-i-2-preserved c =
+loop-i-2-preserved g c =
     let a = c.args in
     let l = c.loop-i in
     let o = c.loop-i-2 in
@@ -65,7 +65,7 @@ loop-i-2-preserved c =
 
 pub returns : goal.returns
 unfolding hall_moves
-returns c =
+returns g c =
     let a = c.args in
     let l = c.loop-i in
     let o = c.loop-i-2 in

@@ -14,11 +14,11 @@ use Rattle.judge.specs.Judging.{ends_by}
 use Rattle.judge.proofs.ending.off_zone.Goals as goal
 
 pub returns : goal.returns
-returns c =
-    λ m k rows d e s h x.
+returns g c =
+    λ m n k zone place rows d e s h x.
     let a = c.args in
     let t = a.map.now in
     let g = a.goals.now in
     let f : ℕ → Bool = λ z. end_test (get_or t.kind z 0) (get_or t.size z 0) (list_in t.first a.lists.now.counts a.lists.now.cells z) (order (arrangement_of g (part_of t z))) in
-    goals_found m s g f (λ z l. ends_by m t.vertices k t.kind t.first t.size t.listed t.zone t.place rows d s g a.lists.now.counts a.lists.now.cells h x z l) _ (e ∙ sym c.zones.ensures) c.find.result
+    goals_found m s g f (λ z l. ends_by m n k t.kind t.first t.size t.listed zone place rows d s g a.lists.now.counts a.lists.now.cells h x z l) _ (e ∙ sym c.zones.ensures) c.find.result
     (first_from_Range _ _ _ c.find.result (λ z. f z ≡ false) (λ z. f z ≡ true) c.find.ensures.ran (λ z q y. search rules) (λ z q y. search rules))

@@ -17,7 +17,7 @@ use Rattle.testing.specs.Steps.{extra_all}
 use Rattle.judge.proofs.walk.put_in.Goals as goal
 
 pub returns : goal.returns
-returns c =
+returns g c =
     λ behind w.
     let a = c.args in
     let s = c.spot-at.ensures in

@@ -5,7 +5,7 @@ use Rattle.testing.specs.Held.{changed_mid}
 use Rattle.judge.proofs.walk.take_out.Goals as goal
 
 pub returns : goal.returns
-returns c =
+returns g c =
     let a = c.args in
     let s = c.spot-at.ensures in
     let z : ℕ = get_or a.map.now.zone a.u.0 0 in

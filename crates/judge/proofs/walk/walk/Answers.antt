@@ -7,20 +7,20 @@ use Rattle.judge.specs.Judging.{judging_start, judging_offset, judging_ready, ju
 use Rattle.judge.proofs.walk.walk.Goals as goal
 
 pub loop-i-init : goal.loop-i-init
-loop-i-init c =
+loop-i-init g c =
     let a = c.args in
     record { room = c.requires.ready.room; many = c.requires.ready.many; judging = λ m d s hc x. judging_start d a.p.file.now a.p.len a.p.inside a.count c.requires.two_bytes hc x }
 
 pub test_step-requires : goal.test_step-requires
-test_step-requires c =
+test_step-requires g c =
     let a = c.args in
     let q = c.requires.ready in
     let l = c.loop-i in
     let j = l.invariant.judging q.map q.given q.state q.consistent q.held in
-    record { o_in_bounds = judging_offset q.given a.p.file.now a.p.len a.p.inside a.count l.invariant.room l.invariant.many j; ready = judging_ready q.given a.p.file.now a.p.len a.p.inside a.count l.invariant.room l.invariant.many j }
+    (search rules, (search rules, (judging_offset q.given a.p.file.now a.p.len a.p.inside a.count l.invariant.room l.invariant.many j, judging_ready q.given a.p.file.now a.p.len a.p.inside a.count l.invariant.room l.invariant.many j)))
 
 pub returns-in_err-x : goal.returns-in_err-x
-returns-in_err-x c =
+returns-in_err-x g c =
     let a = c.args in
     let l = c.loop-i in
     let p = err_from_is_err_and c.from_residual.result c.from_residual.ensures.1 in
@@ -34,7 +34,7 @@ returns-in_err-x c =
     )
 
 pub overflow_add-o : goal.overflow_add-o
-overflow_add-o c =
+overflow_add-o g c =
     let a = c.args in
     let q = c.requires.ready in
     let l = c.loop-i in
@@ -46,7 +46,7 @@ overflow_add-o c =
     search rules
 
 pub overflow_add-o-in-loop-i : goal.overflow_add-o-in-loop-i
-overflow_add-o-in-loop-i c =
+overflow_add-o-in-loop-i g c =
     let a = c.args in
     let q = c.requires.ready in
     let l = c.loop-i in
@@ -58,16 +58,16 @@ overflow_add-o-in-loop-i c =
     search rules
 
 pub make_step-requires : goal.make_step-requires
-make_step-requires c =
+make_step-requires g c =
     let a = c.args in
     let q = c.requires.ready in
     let l = c.loop-i in
     let j = l.invariant.judging q.map q.given q.state q.consistent q.held in
     let t = mapped_ok _ _ _ c.test_step.result c.map_err.result c.in_ok-x.x c.map_err.ensures.cases c.test_step.ensures c.in_ok-x.was in
-    record { marching = judging_step q.given a.p.file.now a.p.len a.p.inside a.count l.invariant.room l.invariant.many j _ (t.tests q.map q.given j.world.state j.walking.consistent j.held l.i-counter); chosen = t.chosen }
+    (search rules, (search rules, (judging_step q.given a.p.file.now a.p.len a.p.inside a.count l.invariant.room l.invariant.many j _ (t.tests q.map q.given j.world.state j.walking.consistent j.held l.i-counter), t.chosen)))
 
 pub loop-i-preserved : goal.loop-i-preserved
-loop-i-preserved c =
+loop-i-preserved g c =
     let a = c.args in
     let q = c.requires.ready in
     let l = c.loop-i in
@@ -84,7 +84,7 @@ loop-i-preserved c =
     }
 
 pub returns : goal.returns
-returns c =
+returns g c =
     let a = c.args in
     let l = c.loop-i in
     (l.invariant.room, l.invariant.many, λ m d s hc x. judging_end d a.p.file.now a.p.len a.p.inside a.count l.invariant.room l.invariant.many (l.invariant.judging m d s hc x) (omega arith))

@@ -11,11 +11,11 @@ named_is None b x e d = e ∙ sym d
 named_is (Some r) b x e d = e ∙ sym d.0
 
 pub returns-in-Clique : goal.returns-in-Clique
-returns-in-Clique c = clique_behind _ (ap number_of c.in-Clique.is) _ _
+returns-in-Clique g c = clique_behind _ (ap number_of c.in-Clique.is) _ _
 
 pub returns-in-Ring : goal.returns-in-Ring
-returns-in-Ring c = named_is c.behind_round.result _ _ c.named.ensures c.behind_round.ensures ∙ ring_behind_lem _ (ap number_of c.in-Ring.is) _ _
+returns-in-Ring g c = named_is c.behind_round.result _ _ c.named.ensures c.behind_round.ensures ∙ ring_behind_lem _ (ap number_of c.in-Ring.is) _ _
 
 pub returns-in_default : goal.returns-in_default
-returns-in_default c =
+returns-in_default g c =
     named_is c.behind.result _ _ c.named-in_default.ensures c.behind.ensures ∙ hall_behind _ (not_clique _ c.in_default.not-Clique) (not_ring _ c.in_default.not-Ring) _ _

@@ -4,10 +4,10 @@ use Rattle.walking.specs.Kinds.{clique_can_leave_lem, ring_can_leave_lem, hall_c
 use Rattle.leeway.proofs.reach.can_leave.Goals as goal
 
 pub returns-in-Clique : goal.returns-in-Clique
-returns-in-Clique c = c.can_leave.ensures ∙ clique_can_leave_lem _ (ap number_of c.in-Clique.is) _ _ _
+returns-in-Clique g c = c.can_leave.ensures ∙ clique_can_leave_lem _ (ap number_of c.in-Clique.is) _ _ _
 
 pub returns-in-Ring : goal.returns-in-Ring
-returns-in-Ring c = c.can_leave-in-Ring.ensures ∙ ring_can_leave_lem _ (ap number_of c.in-Ring.is) _ _ _
+returns-in-Ring g c = c.can_leave-in-Ring.ensures ∙ ring_can_leave_lem _ (ap number_of c.in-Ring.is) _ _ _
 
 pub returns-in_default : goal.returns-in_default
-returns-in_default c = c.can_leave-in_default.ensures ∙ hall_can_leave_lem _ (not_clique _ c.in_default.not-Clique) (not_ring _ c.in_default.not-Ring) _ _ _
+returns-in_default g c = c.can_leave-in_default.ensures ∙ hall_can_leave_lem _ (not_clique _ c.in_default.not-Clique) (not_ring _ c.in_default.not-Ring) _ _ _

@@ -4,7 +4,7 @@ use Rattle.lineup.proofs.line.line_up.Goals as goal
 use Rattle.lineup.proofs.line.line_up.Goals.{then-ne, else-ne}
 
 pub loop-k-preserved : goal.loop-k-preserved
-loop-k-preserved c =
+loop-k-preserved g c =
     let a = c.args in
     let o = c.loop-k in
     elim c.if-ne.branch [
@@ -19,6 +19,6 @@ loop-k-preserved c =
     ]
 
 pub returns : goal.returns
-returns c =
+returns g c =
     let o = c.loop-k in
     collect_all c.args.state.now c.args.zone.vertices.now o.k o.n o.line o.places (omega arith) o.invariant

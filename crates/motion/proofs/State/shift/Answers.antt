@@ -5,7 +5,7 @@ use Rattle.motion.specs.States.{moved_leaves, moved_by, code_state}
 use Rattle.motion.proofs.State.shift.Goals as goal
 
 pub returns : goal.returns
-returns c =
+returns g c =
     let a = c.args in
     let s = c.self.inside in
     moved_leaves s (code_state c.put_cell.new.cells s.vertices) (code_state c.put_cell-2.new.cells s.vertices) _ a.r a.from a.to

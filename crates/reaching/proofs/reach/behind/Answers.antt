@@ -5,10 +5,10 @@ use Rattle.reaching.specs.Reach.{behind_robot, behind_empty, behind_none, behind
 use Rattle.reaching.proofs.reach.behind.Goals as goal
 
 pub loop-k-init : goal.loop-k-init
-loop-k-init c = behind_least c.args.state.now c.args.zone.now c.args.from c.args.j c.min-k.result c.min-k.ensures
+loop-k-init g c = behind_least c.args.state.now c.args.zone.now c.args.from c.args.j c.min-k.result c.min-k.ensures
 
 pub returns-then-ne : goal.returns-then-ne
-returns-then-ne c =
+returns-then-ne g c =
     let a = c.args in
     let o = c.loop-k in
     let e : o.k - 1 + 1 ≡ o.k = omega arith in (
@@ -18,7 +18,7 @@ returns-then-ne c =
     )
 
 pub loop-k-preserved : goal.loop-k-preserved
-loop-k-preserved c =
+loop-k-preserved g c =
     let a = c.args in
     let o = c.loop-k in
     let e : o.k - 1 + 1 ≡ o.k = omega arith in
@@ -26,4 +26,4 @@ loop-k-preserved c =
     ∙ ap (λ (k : ℕ). last_named (drop a.from (take k (arrangement_of a.state.now a.zone.now)))) e ∙ o.invariant
 
 pub returns : goal.returns
-returns c = sym (behind_none c.args.state.now c.args.zone.now c.args.from c.loop-k.k (omega arith) ∙ c.loop-k.invariant)
+returns g c = sym (behind_none c.args.state.now c.args.zone.now c.args.from c.loop-k.k (omega arith) ∙ c.loop-k.invariant)

@@ -9,11 +9,11 @@ use Rattle.reaching.proofs.reach.can_end.Goals as goal
 
 pub returns : goal.returns
 unfolding hall_can_end
-returns c =
+returns g c =
     let s = c.args.state.now in
-    let g = c.args.goals.now in
+    let t = c.args.goals.now in
     let z = c.args.zone.now in
-    same_from_eq (λ (a : Row) (b : Row). b ≡ a) _ c.eq.result c.eq.ensures.ran
+    same_from_eq (λ (a : Row g.row.P g.row.Q) (b : Row g.row.P g.row.Q). b ≡ a) _ c.eq.result c.eq.ensures.ran
     (YieldsList-from_first robot_no robots_left (row_of s z) refl)
-    (λ it b. YieldsList-from_first robot_no robots_left (row_of g z) (ap robots_left b))
+    (λ it b. YieldsList-from_first robot_no robots_left (row_of t z) (ap robots_left b))
     (λ x y. search (rules, tests))

@@ -5,7 +5,7 @@ use Rattle.reaching.specs.Reach.{can_enter_first, can_enter_room, can_enter_none
 use Rattle.reaching.proofs.reach.can_enter.Goals as goal
 
 pub returns-then-behind-eq255 : goal.returns-then-behind-eq255
-returns-then-behind-eq255 c =
+returns-then-behind-eq255 g c =
     let a = c.args in
     let n = c.count_robots-lower in
     c.has_room.ensures
@@ -13,7 +13,7 @@ returns-then-behind-eq255 c =
     (sym (arrangement_length a.state.now a.zone.now)) c.if-behind-eq255.true
 
 pub returns-then-lower-all : goal.returns-then-lower-all
-returns-then-lower-all c =
+returns-then-lower-all g c =
     let a = c.args in
     let n = c.count_robots-lower in
     c.has_room-then-lower-all.ensures
@@ -21,7 +21,7 @@ returns-then-lower-all c =
     (sym (arrangement_length a.state.now a.zone.now)) c.if-behind-eq255.false c.if-lower-all.true
 
 pub returns-else-lower-all : goal.returns-else-lower-all
-returns-else-lower-all c =
+returns-else-lower-all g c =
     let a = c.args in
     let n = c.count_robots-lower in
     can_enter_none (arrangement_of a.state.now a.zone.now) a.behind n.result.lower n.result.all n.ensures a.j c.if-behind-eq255.false c.if-lower-all.false

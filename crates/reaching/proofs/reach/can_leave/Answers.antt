@@ -5,7 +5,7 @@ use Rattle.reaching.specs.Reach.{can_leave_room, can_leave_none}
 use Rattle.reaching.proofs.reach.can_leave.Goals as goal
 
 pub returns-then-lower-all : goal.returns-then-lower-all
-returns-then-lower-all c =
+returns-then-lower-all g c =
     let a = c.args in
     let n = c.count_robots-lower in
     c.has_room.ensures
@@ -13,7 +13,7 @@ returns-then-lower-all c =
     (sym (arrangement_length a.state.now a.zone.now)) c.if-lower-all.true
 
 pub returns-else-lower-all : goal.returns-else-lower-all
-returns-else-lower-all c =
+returns-else-lower-all g c =
     let a = c.args in
     let n = c.count_robots-lower in
     can_leave_none (arrangement_of a.state.now a.zone.now) a.r.0 n.result.lower n.result.all n.ensures a.j c.if-lower-all.false

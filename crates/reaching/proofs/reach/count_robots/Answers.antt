@@ -10,10 +10,10 @@ use Rattle.reaching.proofs.reach.count_robots.Goals as goal
 use Rattle.reaching.proofs.reach.count_robots.Goals.{then-lower-all+then-ne, else-lower-all, else-lower-all-via-then-lower-all+else-ne, else-lower-all-via-else-lower-all}
 
 pub loop-r-init : goal.loop-r-init
-loop-r-init c = (tt, tt, counted_none c.args.named.0)
+loop-r-init g c = (tt, tt, counted_none c.args.named.0)
 
 pub overflow_add-lower : goal.overflow_add-lower
-overflow_add-lower c =
+overflow_add-lower g c =
     let o = c.loop-r in
     let s = c.args.state.now in
     let z = c.args.zone.now in
@@ -21,7 +21,7 @@ overflow_add-lower c =
     omega (arith, t.0, o.invariant.2.count, length-map o.yielded robot_no, order_short (arrangement_of s z), arrangement_length s z)
 
 pub overflow_add-all : goal.overflow_add-all
-overflow_add-all c =
+overflow_add-all g c =
     let o = c.loop-r in
     let s = c.args.state.now in
     let z = c.args.zone.now in
@@ -29,7 +29,7 @@ overflow_add-all c =
     omega (arith, t.0, o.invariant.2.count, length-map o.yielded robot_no, order_short (arrangement_of s z), arrangement_length s z)
 
 pub loop-r-preserved : goal.loop-r-preserved
-loop-r-preserved c =
+loop-r-preserved g c =
     let o = c.loop-r in
     let rs = map robot_no o.yielded in
     elim c.if-lower-all.branch [
@@ -45,7 +45,7 @@ loop-r-preserved c =
     ]
 
 pub returns : goal.returns
-returns c =
+returns g c =
     let o = c.loop-r in
     let s = c.args.state.now in
     let z = c.args.zone.now in

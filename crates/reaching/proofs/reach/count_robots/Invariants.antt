@@ -4,6 +4,6 @@ use Rattle.reaching.specs.Row.{Counted}
 use Rattle.reaching.proofs.reach.count_robots.Given as goal
 
 abbrev pub invariant-loop-r : goal.invariant-loop-r
-invariant-loop-r l =
-    (goal.iterator-loop-r).can_next l.r-iterator × (goal.iterator-loop-r).is_finite l.r-iterator
+invariant-loop-r g l =
+    (goal.iterator-loop-r g).can_next l.r-iterator × (goal.iterator-loop-r g).is_finite l.r-iterator
     × Counted (map robot_no l.yielded) l.named.0 l.lower l.all

@@ -10,16 +10,16 @@ use Rattle.resolve.proofs.plan.resolve_plan.Goals as goal
 
 pub walk-requires : goal.walk-requires
 unfolding cleared_start
-walk-requires c =
+walk-requires g c =
     let x = c.requires in
     let a = c.args in
     let long : length a.starts ≡ 64 = search (rules, c.well_formed) in
     let l : a.k ≤ length a.starts = omega (arith, x.on.given.few) in
-    cleared_start a.file.now a.map.now.zones a.k a.map.now.kind a.map.now.first a.map.now.size a.map.now.listed a.map.now.zone a.map.now.place a.starts a.goals x c.payload_word-count.result _ a.out.now c.payload_word-count.ensures.0 l c.standing-state.ensures
+    (search rules, cleared_start a.file.now a.map.now.zones a.k a.map.now.kind a.map.now.first a.map.now.size a.map.now.listed a.map.now.zone a.map.now.place a.starts a.goals x c.payload_word-count.result _ a.out.now c.payload_word-count.ensures.0 l c.standing-state.ensures)
 
 pub returns-in_err-made : goal.returns-in_err-made
 unfolding cleared_start
-returns-in_err-made c =
+returns-in_err-made g c =
     λ x.
     let a = c.args in
     let long : length a.starts ≡ 64 = search (rules, c.well_formed) in
@@ -30,31 +30,39 @@ returns-in_err-made c =
 
 pub end_zones-requires : goal.end_zones-requires
 unfolding cleared_start
-end_zones-requires c =
+end_zones-requires g c =
     let x = c.requires in
     let a = c.args in
     let long : length a.starts ≡ 64 = search (rules, c.well_formed) in
     let l : a.k ≤ length a.starts = omega (arith, x.on.given.few) in
     let eg = c.standing-targets.ensures ∙ ap meaning.standing (sym x.on.on_goals_lem) in
-    let y = c.in_ok-made.ensures (cleared_start a.file.now a.map.now.zones a.k a.map.now.kind a.map.now.first a.map.now.size a.map.now.listed a.map.now.zone a.map.now.place a.starts a.goals x c.payload_word-count.result _ a.out.now c.payload_word-count.ensures.0 l c.standing-state.ensures) in
-    record {
-      on = record {
-        map = x.on.map;
-        n = x.n;
-        k = a.k;
-        zone = a.map.now.zone;
-        place = a.map.now.place;
-        rows = x.rows;
-        given = x.on.given;
-        count = x.on.count;
-        consistent = y.1.consistent;
-      };
-      pass = cleared_goals a.file.now a.map.now.zones a.k a.map.now.kind a.map.now.first a.map.now.size a.map.now.listed a.map.now.zone a.map.now.place a.starts a.goals x c.payload_word-count.result _ a.out.now c.payload_word-count.ensures.0 l c.standing-state.ensures _ y.0 y.1 _ eg;
-    }
+    let y = c.in_ok-made.ensures (cleared_start a.file.now a.map.now.zones a.k a.map.now.kind a.map.now.first a.map.now.size a.map.now.listed a.map.now.zone a.map.now.place a.starts a.goals x c.payload_word-count.result _ a.out.now c.payload_word-count.ensures.0 l c.standing-state.ensures) in (
+      search rules,
+      (
+        search rules,
+        (
+          search rules,
+          record {
+            on = record {
+              map = x.on.map;
+              n = x.n;
+              k = a.k;
+              zone = a.map.now.zone;
+              place = a.map.now.place;
+              rows = x.rows;
+              given = x.on.given;
+              count = x.on.count;
+              consistent = y.1.consistent;
+            };
+            pass = cleared_goals a.file.now a.map.now.zones a.k a.map.now.kind a.map.now.first a.map.now.size a.map.now.listed a.map.now.zone a.map.now.place a.starts a.goals x c.payload_word-count.result _ a.out.now c.payload_word-count.ensures.0 l c.standing-state.ensures _ y.0 y.1 _ eg;
+          },
+        ),
+      ),
+    )
 
 pub returns : goal.returns
 unfolding cleared_start
-returns c =
+returns g c =
     λ x.
     let a = c.args in
     let long : length a.starts ≡ 64 = search (rules, c.well_formed) in

@@ -7,7 +7,7 @@ use Rattle.ring.specs.Ending.{lowest_found}
 use Rattle.ring.proofs.ending.lowest.Goals as goal
 
 pub returns : goal.returns
-returns c =
+returns g c =
     let s = c.args.state.now in
     let z = c.args.zone.now in
     lowest_found s z c.min.result

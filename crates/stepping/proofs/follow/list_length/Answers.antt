@@ -4,7 +4,7 @@ use Rattle.walking.specs.Held.{extra_filled, extra_none}
 use Rattle.stepping.proofs.follow.list_length.Goals as goal
 
 pub returns-then-fills : goal.returns-then-fills
-returns-then-fills c = let a = c.args in extra_filled (number_of a.kind) a.state.now a.zone.now (sym c.fills.ensures ∙ c.if-fills.true)
+returns-then-fills g c = let a = c.args in extra_filled (number_of a.kind) a.state.now a.zone.now (sym c.fills.ensures ∙ c.if-fills.true)
 
 pub returns : goal.returns
-returns c = let a = c.args in extra_none (number_of a.kind) a.state.now a.zone.now (sym c.fills.ensures ∙ c.if-fills.false)
+returns g c = let a = c.args in extra_none (number_of a.kind) a.state.now a.zone.now (sym c.fills.ensures ∙ c.if-fills.false)

@@ -6,24 +6,52 @@ use borrow.Author.Rules.{rules}
 use Rattle.stepping.proofs.step.make_step.Goals as goal
 
 pub overflow_add-from : goal.overflow_add-from
-overflow_add-from c =
+overflow_add-from g c =
     let a = c.args in
     let x = stepping_room a.file.now a.o a.n a.map.now.kind a.map.now.first a.map.now.size a.map.now.listed a.map.now.zone a.map.now.place a.state.now c.requires.stepping in
     search rules
 
 pub leave_at-left-requires : goal.leave_at-left-requires
-leave_at-left-requires c =
-    let a = c.args in
-    record { has_vertex = stepping_from a.file.now a.o a.n a.map.now.kind a.map.now.first a.map.now.size a.map.now.listed a.map.now.zone a.map.now.place a.state.now c.requires.stepping a.four c.requires.four_at; u_value = stepping_leaves a.file.now a.o a.n a.map.now.kind a.map.now.first a.map.now.size a.map.now.listed a.map.now.zone a.map.now.place a.state.now c.requires.stepping a.four c.requires.four_at; proper = stepping_proper a.file.now a.o a.n a.map.now.kind a.map.now.first a.map.now.size a.map.now.listed a.map.now.zone a.map.now.place a.state.now c.requires.stepping a.four c.requires.four_at }
+leave_at-left-requires g c =
+    let a = c.args in (
+      search rules,
+      (
+        search rules,
+        (
+          stepping_from a.file.now a.o a.n a.map.now.kind a.map.now.first a.map.now.size a.map.now.listed a.map.now.zone a.map.now.place a.state.now c.requires.stepping a.four c.requires.four_at,
+          (
+            stepping_leaves a.file.now a.o a.n a.map.now.kind a.map.now.first a.map.now.size a.map.now.listed a.map.now.zone a.map.now.place a.state.now c.requires.stepping a.four c.requires.four_at,
+            stepping_proper a.file.now a.o a.n a.map.now.kind a.map.now.first a.map.now.size a.map.now.listed a.map.now.zone a.map.now.place a.state.now c.requires.stepping a.four c.requires.four_at,
+          ),
+        ),
+      ),
+    )
 
 pub enter_at-room-requires : goal.enter_at-room-requires
-enter_at-room-requires c =
+enter_at-room-requires g c =
     let a = c.args in
-    let w = (world a.state.now a.count a.out.now) in
-    record { n_bound = (stepping_short a.file.now a.o a.n a.map.now.kind a.map.now.first a.map.now.size a.map.now.listed a.map.now.zone a.map.now.place a.state.now c.requires.stepping a.four c.requires.four_at, stepping_room a.file.now a.o a.n a.map.now.kind a.map.now.first a.map.now.size a.map.now.listed a.map.now.zone a.map.now.place a.state.now c.requires.stepping); has_vertex = stepping_to a.file.now a.o a.n a.map.now.kind a.map.now.first a.map.now.size a.map.now.listed a.map.now.zone a.map.now.place a.state.now c.requires.stepping a.four c.requires.four_at; numbered = stepping_named a.file.now a.o a.n a.map.now.kind a.map.now.first a.map.now.size a.map.now.listed a.map.now.zone a.map.now.place a.state.now c.requires.stepping a.four c.requires.four_at; proper = stepping_room_proper a.file.now a.o a.n a.map.now.kind a.map.now.first a.map.now.size a.map.now.listed a.map.now.zone a.map.now.place a.state.now c.requires.stepping a.four c.requires.four_at w _ refl c.leave_at-left.ensures; n_value = stepping_extra a.file.now a.o a.n a.map.now.kind a.map.now.first a.map.now.size a.map.now.listed a.map.now.zone a.map.now.place a.state.now c.requires.stepping a.four c.requires.four_at w _ refl c.leave_at-left.ensures }
+    let w = (world a.state.now a.count a.out.now) in (
+      search rules,
+      (
+        search rules,
+        (
+          (stepping_short a.file.now a.o a.n a.map.now.kind a.map.now.first a.map.now.size a.map.now.listed a.map.now.zone a.map.now.place a.state.now c.requires.stepping a.four c.requires.four_at, stepping_room a.file.now a.o a.n a.map.now.kind a.map.now.first a.map.now.size a.map.now.listed a.map.now.zone a.map.now.place a.state.now c.requires.stepping),
+          (
+            stepping_to a.file.now a.o a.n a.map.now.kind a.map.now.first a.map.now.size a.map.now.listed a.map.now.zone a.map.now.place a.state.now c.requires.stepping a.four c.requires.four_at,
+            (
+              stepping_named a.file.now a.o a.n a.map.now.kind a.map.now.first a.map.now.size a.map.now.listed a.map.now.zone a.map.now.place a.state.now c.requires.stepping a.four c.requires.four_at,
+              (
+                stepping_room_proper a.file.now a.o a.n a.map.now.kind a.map.now.first a.map.now.size a.map.now.listed a.map.now.zone a.map.now.place a.state.now c.requires.stepping a.four c.requires.four_at w _ refl c.leave_at-left.ensures,
+                stepping_extra a.file.now a.o a.n a.map.now.kind a.map.now.first a.map.now.size a.map.now.listed a.map.now.zone a.map.now.place a.state.now c.requires.stepping a.four c.requires.four_at w _ refl c.leave_at-left.ensures,
+              ),
+            ),
+          ),
+        ),
+      ),
+    )
 
 pub returns : goal.returns
-returns c =
+returns g c =
     λ m points k len rows d h most t.
     let a = c.args in
     let st : Stepping a.file.now a.o a.n a.map.now.kind a.map.now.first a.map.now.size a.map.now.listed a.map.now.zone a.map.now.place a.state.now =

@@ -5,7 +5,7 @@ use Rattle.tabling.specs.Places.{free_at}
 use Rattle.tabling.proofs.placing.first_free.Goals as goal
 
 pub returns : goal.returns
-returns c =
+returns g c =
     let s = c.args.state.now in
     let z = c.args.zone.now in
     c.earliest.ensures (arrangement_of s z) (arrangement_length s z, λ k h b p. free_at s z k b h (search (rules, tests)))

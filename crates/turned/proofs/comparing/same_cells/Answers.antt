@@ -6,7 +6,7 @@ use Rattle.turned.specs.Comparing.{cells_alike}
 use Rattle.turned.proofs.comparing.same_cells.Goals as goal
 
 pub returns : goal.returns
-returns c =
+returns g c =
     let s = c.args.state.now in
     let t = c.args.goals.now in
     let z = c.args.zone.now in

@@ -8,7 +8,7 @@ use Rattle.turned.specs.Comparing.{robot?, number, robots_listed, robots_round}
 use Rattle.turned.proofs.comparing.same_round.Goals as goal
 
 pub returns : goal.returns
-returns c =
+returns g c =
     let s = c.args.state.now in
     let t = c.args.goals.now in
     let z = c.args.zone.now in

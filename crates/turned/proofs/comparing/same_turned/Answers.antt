@@ -11,7 +11,7 @@ use Rattle.turned.specs.Comparing.{robot?, number, first_found, turned_none, tur
 use Rattle.turned.proofs.comparing.same_turned.Goals as goal
 
 pub returns-in_default : goal.returns-in_default
-returns-in_default c =
+returns-in_default g c =
     let s = c.args.state.now in
     let z = c.args.zone.now in
     let first = first_found s z c.find.result
@@ -21,14 +21,14 @@ returns-in_default c =
     c.is_vacant.ensures ∙ turned_none (arrangement_of s z) (arrangement_of c.args.goals.now z) (rw c.in_default.is at first)
 
 pub same_round-requires : goal.same_round-requires
-same_round-requires c =
+same_round-requires g c =
     let t = c.args.goals.now in
     let z = c.args.zone.now in
     let e = c.unwrap_or-q.ensures ∙ found_or_size (length z) (seek (suc c.in-Some.r.0) (arrangement_of t z)) c.place_of.result c.place_of.ensures in
     omega (arith, e, seek_within (suc c.in-Some.r.0) (arrangement_of t z), arrangement_length t z)
 
 pub returns : goal.returns
-returns c =
+returns g c =
     let s = c.args.state.now in
     let z = c.args.zone.now in
     let first = first_found s z c.find.result

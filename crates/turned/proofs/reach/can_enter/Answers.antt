@@ -16,21 +16,21 @@ outside n i None h e = omega (arith, h)
 outside n i (Some k) h e = absurd cc
 
 pub returns-then-is_some : goal.returns-then-is_some
-returns-then-is_some c =
+returns-then-is_some g c =
     let a = c.args in
     let g = arrangement_of a.state.now a.zone.now in
     let h = inside (length a.zone.now) (seek (suc a.behind) g) c.place_of.result c.place_of.ensures (sym c.is_some.ensures ∙ c.if-is_some.true) in
     c.if-is_some.true ∙ enter_inside g a.j a.behind (omega (arith, h, arrangement_length a.state.now a.zone.now))
 
 pub returns-then-alone : goal.returns-then-alone
-returns-then-alone c =
+returns-then-alone g c =
     let a = c.args in
     let g = arrangement_of a.state.now a.zone.now in
     let h = outside (length a.zone.now) (seek (suc a.behind) g) c.place_of.result c.place_of.ensures (sym c.is_some.ensures ∙ c.if-is_some.false) in
     c.is_vacant.ensures ∙ enter_vacant g a.j a.behind (omega (arith, h, arrangement_length a.state.now a.zone.now)) (search rules)
 
 pub returns-else-alone : goal.returns-else-alone
-returns-else-alone c =
+returns-else-alone g c =
     let a = c.args in
     let g = arrangement_of a.state.now a.zone.now in
     let h = outside (length a.zone.now) (seek (suc a.behind) g) c.place_of.result c.place_of.ensures (sym c.is_some.ensures ∙ c.if-is_some.false) in

@@ -11,10 +11,10 @@ use Rattle.turns.specs.Entry.{walk_all, walk_free, walk_taken, walk_over}
 use Rattle.turns.proofs.turning.behind.Goals as goal
 
 pub loop-k-init : goal.loop-k-init
-loop-k-init c = let a = c.args in walk_all a.state.now a.zone.now a.j (search rules)
+loop-k-init g c = let a = c.args in walk_all a.state.now a.zone.now a.j (search rules)
 
 pub returns-then-ne : goal.returns-then-ne
-returns-then-ne c =
+returns-then-ne g c =
     let a = c.args in
     let z = a.zone.now in
     let k = c.loop-k.k - 1 - 1 in
@@ -27,7 +27,7 @@ returns-then-ne c =
     )
 
 pub loop-k-preserved : goal.loop-k-preserved
-loop-k-preserved c =
+loop-k-preserved g c =
     let a = c.args in
     let z = a.zone.now in
     let k = c.loop-k.k - 1 - 1 in
@@ -38,6 +38,6 @@ loop-k-preserved c =
     ∙ ap (λ (i : ℕ). last_named (take i (opened a.j (arrangement_of a.state.now z)))) n ∙ c.loop-k.invariant
 
 pub returns : goal.returns
-returns c =
+returns g c =
     let a = c.args in
     sym (walk_over a.state.now a.zone.now a.j (search rules) (c.loop-k.k - 1) (omega arith) ∙ c.loop-k.invariant)

@@ -7,4 +7,4 @@ use Rattle.spec.specs.State.{arrangement_of}
 use Rattle.turns.proofs.turning.behind.Given as goal
 
 abbrev pub invariant-loop-k : goal.invariant-loop-k
-invariant-loop-k l = last_named (take (l.k - 1) (opened l.j (arrangement_of l.state l.zone))) ≡ ring_behind (arrangement_of l.state l.zone) l.j
+invariant-loop-k g l = last_named (take (l.k - 1) (opened l.j (arrangement_of l.state l.zone))) ≡ ring_behind (arrangement_of l.state l.zone) l.j

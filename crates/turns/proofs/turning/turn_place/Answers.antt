@@ -5,22 +5,22 @@ use Rattle.turns.specs.Turns.{begins_taken, begins_nowhere, begins_behind, begin
 use Rattle.turns.proofs.turning.turn_place.Goals as goal
 
 pub returns-then-ne : goal.returns-then-ne
-returns-then-ne c =
+returns-then-ne g c =
     let a = c.args in
     (search rules, begins_taken a.state.now a.zone.now a.j a.named.0 c.robot_at.result.0 c.robot_at.ensures (search (rules, tests)))
 
 pub returns-in_default : goal.returns-in_default
-returns-in_default c =
+returns-in_default g c =
     let a = c.args in
     begins_never a.state.now a.zone.now a.j a.named.0 c.robot_at.result.0 c.robot_at.ensures (search (rules, tests)) c.in_default.ensures
 
 pub returns-then-eq : goal.returns-then-eq
-returns-then-eq c =
+returns-then-eq g c =
     let a = c.args in
     sym (begins_nowhere a.state.now a.zone.now a.j a.named.0 c.robot_at.result.0 c.in-Some.b.0 c.robot_at.ensures (search (rules, tests)) c.in-Some.ensures.0 (search (rules, tests)))
 
 pub returns : goal.returns
-returns c =
+returns g c =
     let a = c.args in
     let z = a.zone.now in
     let f = c.in-Some.ensures in

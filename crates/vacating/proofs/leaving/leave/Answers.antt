@@ -9,13 +9,13 @@ use Rattle.vacating.specs.Leaving.{leave_stays, leave_goes}
 use Rattle.vacating.proofs.leaving.leave.Goals as goal
 
 pub returns-then-here : goal.returns-then-here
-returns-then-here c =
+returns-then-here g c =
     let a = c.args in
     made_nothing (world a.state.now a.count a.out.now) a.zone.now _
     (leave_stays (arrangement_of a.state.now a.zone.now) a.r.0 a.j (sym c.if-here.true ∙ c.stands-here.ensures))
 
 pub returns : goal.returns
-returns c =
+returns g c =
     let a = c.args in
     let z = a.zone.now in
     let g = arrangement_of a.state.now z in

@@ -8,13 +8,13 @@ use Rattle.vacating.specs.Leaving.{room_none, room_made, made_single}
 use Rattle.vacating.proofs.leaving.make_room.Goals as goal
 
 pub returns-then-eq : goal.returns-then-eq
-returns-then-eq c =
+returns-then-eq g c =
     let a = c.args in
     made_nothing (world a.state.now a.count a.out.now) a.zone.now _
     (room_none (arrangement_of a.state.now a.zone.now) a.j c.robot_at-x.result.0 c.robot_at-x.ensures (search (rules, tests)))
 
 pub returns : goal.returns
-returns c =
+returns g c =
     let a = c.args in
     let z = a.zone.now in
     let g = arrangement_of a.state.now z in

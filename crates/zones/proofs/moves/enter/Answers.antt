@@ -13,29 +13,29 @@ use Rattle.walking.specs.Kinds.{clique_enter_lem, ring_enter_lem, hall_enter_lem
 use Rattle.zones.proofs.moves.enter.Goals as goal
 
 pub enter-requires : goal.enter-requires
-enter-requires c =
+enter-requires g c =
     let p = c.args in
     let f = c.requires in
-    let z = c.short.result.vertices.now in
+    let z = p.zone.vertices.now in
     let e : length p.list.now ≡ extra_of 3 (arrangement_of p.state.now z) =
-    rw c.short.ensures (f.list_len ∙ ap (λ (k : ℕ). extra_of k (arrangement_of p.state.now p.zone.vertices.now)) (ap number_of c.in-Clique.is)) in
-    let d : Distinct (arrangement_of p.state.now z) = rw c.short.ensures f.proper.once in
+    (f.list_len ∙ ap (λ (k : ℕ). extra_of k (arrangement_of p.state.now p.zone.vertices.now)) (ap number_of c.in-Clique.is)) in
+    let d : Distinct (arrangement_of p.state.now z) = f.proper.once in
     search rules
 
 pub returns-in-Clique : goal.returns-in-Clique
-returns-in-Clique c =
+returns-in-Clique g c =
     let a = c.args in
     let z = a.zone.vertices.now in
-    (rw c.short.ensures at c.enter.ensures) ∙ ap (λ (ms : List Move). made_all (world a.state.now a.count a.out.now) (across z ms)) (clique_enter_lem _ (ap number_of c.in-Clique.is) (arrangement_of a.state.now z) a.j a.behind a.list.now)
+    c.enter.ensures ∙ ap (λ (ms : List Move). made_all (world a.state.now a.count a.out.now) (across z ms)) (clique_enter_lem _ (ap number_of c.in-Clique.is) (arrangement_of a.state.now z) a.j a.behind a.list.now)
 
 pub returns-in-Ring : goal.returns-in-Ring
-returns-in-Ring c =
+returns-in-Ring g c =
     let a = c.args in
     let z = a.zone.vertices.now in
     c.enter-in-Ring.ensures ∙ ap (λ (ms : List Move). made_all (world a.state.now a.count a.out.now) (across z ms)) (ring_enter_lem _ (ap number_of c.in-Ring.is) (arrangement_of a.state.now z) a.j a.behind a.list.now)
 
 pub returns-in_default : goal.returns-in_default
-returns-in_default c =
+returns-in_default g c =
     let a = c.args in
     let z = a.zone.vertices.now in
-    (rw c.short-in_default.ensures at c.enter-in_default.ensures) ∙ ap (λ (ms : List Move). made_all (world a.state.now a.count a.out.now) (across z ms)) (hall_enter_lem _ (not_clique _ c.in_default.not-Clique) (not_ring _ c.in_default.not-Ring) (arrangement_of a.state.now z) a.j a.behind a.list.now)
+    c.enter-in_default.ensures ∙ ap (λ (ms : List Move). made_all (world a.state.now a.count a.out.now) (across z ms)) (hall_enter_lem _ (not_clique _ c.in_default.not-Clique) (not_ring _ c.in_default.not-Ring) (arrangement_of a.state.now z) a.j a.behind a.list.now)

@@ -3,7 +3,7 @@ use mathlib.Core.Path.{refl, ap}
 use native.Mathlib.Omega.{arith}
 use lib.ListN.{get_or, set}
 use Rattle.motion.specs.States.{standing_none, standing_next, standing_all, length_mapped, code_state}
-use Rattle.motion.proofs.State.standing.Goals as goal
+use Rattle.motion.proofs.State+128+64.standing.Goals as goal
 
 pub loop-i-init : goal.loop-i-init
 loop-i-init c = standing_none c.args.starts c.min-i-end.result (omega (arith, c.min-i-end.ensures)) (search (rules, length_mapped))

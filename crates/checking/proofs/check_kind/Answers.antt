@@ -5,11 +5,10 @@ use mathlib.Core.List.{List, []}
 use mathlib.Core.Path.{◌≡◌, ap, sym, ◌∙◌}
 use lib.ListN.{length, get_or}
 use Rattle.std.specs.Simd.{first_chunks}
-use Rattle.wire.specs.Kind.{number_of_file, blocks_of_file}
 use Rattle.checking.specs.Block.{block_at, chunk_at}
 use Rattle.checking.specs.Checked.{size_odd, size_none, size_over, going_start, going_sum, going_head, going_fill, going_end, going_whole, good_le, going_more}
-use Rattle.checking.proofs.check_file.Goals.{then-not-is_empty-via-then-not-is_empty, then-not-is_empty-via-else-not-is_empty+then-count-lt1, then-not-is_empty-via-else-not-is_empty+else-count-lt1+then-count-from}
-use Rattle.checking.proofs.check_file.Goals as goal
+use Rattle.checking.proofs.check_kind.Goals.{then-not-is_empty-via-then-not-is_empty, then-not-is_empty-via-else-not-is_empty+then-count-lt1, then-not-is_empty-via-else-not-is_empty+else-count-lt1+then-count-limit}
+use Rattle.checking.proofs.check_kind.Goals as goal
 
 -- block i of the file's blocks
 block : (f : List ℕ) (blocks : List (List ℕ)) (i : ℕ) → blocks ≡ first_chunks 512 (length f / 512) f → length blocks ≡ length f / 512 → i < length blocks
@@ -19,17 +18,17 @@ block f blocks i e l h = ap (λ (x : List (List ℕ)). get_or x i []) e ∙ chun
 pub returns-then-not-is_empty-clause-by_index : goal.returns-then-not-is_empty-clause-by_index
 returns-then-not-is_empty-clause-by_index c base =
     let f = c.args.file.now in
-    let n = number_of_file c.args.kind in
-    let m = blocks_of_file c.args.kind in
+    let n = c.args.kind in
+    let m = c.args.limit in
     let e = c.as_chunks.ensures in
     elim c.then-not-is_empty.branch [
       | then-not-is_empty-via-then-not-is_empty w ↦ size_odd f base n m (λ z. eqb-false _ _ (sym c.is_empty.ensures ∙ w.if-not-is_empty.true) (e.back_len ∙ z))
       | then-not-is_empty-via-else-not-is_empty+then-count-lt1 w ↦ size_none f base n m (sym e.back_len ∙ eqb-true _ _ (sym c.is_empty.ensures ∙ w.if-not-is_empty.false)) (omega (arith, e.front_len, w.if-count-lt1.true))
-      | then-not-is_empty-via-else-not-is_empty+else-count-lt1+then-count-from w ↦ size_over f base n m (sym e.back_len ∙ eqb-true _ _ (sym c.is_empty.ensures ∙ w.if-not-is_empty.false)) (omega (arith, e.front_len, w.if-count-lt1.false)) (omega (arith, e.front_len, w.if-count-from.true, w.from.ensures, w.most_blocks.ensures))
+      | then-not-is_empty-via-else-not-is_empty+else-count-lt1+then-count-limit w ↦ size_over f base n m (sym e.back_len ∙ eqb-true _ _ (sym c.is_empty.ensures ∙ w.if-not-is_empty.false)) (omega (arith, e.front_len, w.if-count-lt1.false)) (omega (arith, e.front_len, w.if-count-limit.true))
     ]
 
 pub loop-i-init : goal.loop-i-init
-loop-i-init c = going_start _ _ c.args.file.now _ (sym c.as_chunks.ensures.back_len ∙ eqb-true _ _ (sym c.is_empty.ensures ∙ c.if-not-is_empty.false)) c.as_chunks.ensures.front_len c.if-count-lt1.false (omega (arith, c.if-count-from.false, c.from.ensures, c.most_blocks.ensures))
+loop-i-init c = going_start _ _ c.args.file.now _ (sym c.as_chunks.ensures.back_len ∙ eqb-true _ _ (sym c.is_empty.ensures ∙ c.if-not-is_empty.false)) c.as_chunks.ensures.front_len c.if-count-lt1.false (omega (arith, c.if-count-limit.false))
 
 pub returns-then-not-sum_ok : goal.returns-then-not-sum_ok
 returns-then-not-sum_ok c =
